@@ -1,0 +1,4 @@
+pub mod Big
+pub mod Layout
+pub mod Answers
+pub mod Survey
