@@ -17,7 +17,7 @@ use Rattle.std.specs.declared.result.Result.the-variants.{Err}
 use Rattle.trace.specs.declared.fault.Fault.{Fault}
 use Rattle.trace.specs.declared.fault.Fault.the-variants.{CutShort}
 use Rattle.trace.specs.declared.record.Record.{Record}
-use Rattle.trace.specs.Layout.{Entry, Ending, short, Reading, lay-entry, lay-ending, Known, body-length, Proper-entries}
+use Rattle.trace.specs.Layout.{Entry, enrol, amount, remark, Ending, short, nothing, Reading, lay-entry, lay-ending, Known, body-length, Proper-entry, Proper-entries}
 use Rattle.trace.specs.Answers.{Answer, entry, outcome, told, place, answer, Given}
 use Rattle.trace.proofs.Heads.{Head, Heads, first, heads-first}
 use Rattle.trace.proofs.Ways.{head-of, reading-heads}
@@ -83,15 +83,31 @@ gives t p f heads R k given =
 abbrev pub Next : List ℕ → ℕ → Answer → ℕ → Type 0
 Next t p a q = (R : Reading) (k : ℕ) → Given R k t p → (a ≡ answer R k) × Given R (k + 1) t q
 
--- a record of n bytes takes the reader past it, an ending leaves it where it is
-pub gives-entry : (t : List ℕ) (p n : ℕ) (e : Entry) → length (lay-entry e) ≡ n → Heads (drop p t) (inl e) → Next t p (entry p e) (p + n)
-gives-entry t p n e is heads = subst (λ m. Next t p (entry p e) (p + m)) is (gives t p (inl e) heads)
+-- how many bytes a record has, its kind among them
+abbrev size-of : Entry → ℕ
+size-of (enrol id slots) = 15
+size-of (amount id units) = 13
+size-of (remark text) = 17
 
-pub gives-ending : (t : List ℕ) (p : ℕ) (o : Ending) → Heads (drop p t) (inr o) → Next t p (outcome o p) p
-gives-ending t p o heads = subst (Next t p (outcome o p)) (add-zero p) (gives t p (inr o) heads)
+lay-size : (e : Entry) → Proper-entry e → length (lay-entry e) ≡ size-of e
+lay-size (enrol id slots) (hi, hs) = omega (arith, length-append id slots)
+lay-size (amount id units) (hi, hu) = omega (arith, length-append id units)
+lay-size (remark text) h = omega arith
 
--- a body that is cut short, as `?` hands the fault on
-pub gives-short : (t body : List ℕ) (p kind : ℕ) (r : Result Record Fault) → drop p t ≡ kind ∷ body → Known kind → length body < body-length kind
-    → ((why : Fault) × (r ≡ Err why) × (why ≡ CutShort p)) → Next t p (told r) p
-gives-short t body p kind r is known less (why, e, d) =
-    subst (λ a. Next t p a p) (sym (ap told (e ∙ ap Err d))) (gives-ending t p (short kind body) ((known, less), is))
+module _ (t body : List ℕ) (p kind : ℕ) (is : drop p t ≡ kind ∷ body) where
+  -- a record takes the reader past it
+  pub gives-entry : (e : Entry) (a : Answer) → Heads (kind ∷ body) (inl e) → a ≡ entry p e → Next t p a (p + size-of e)
+  gives-entry e a heads told = subst (λ x. Next t p x (p + size-of e)) (sym told)
+      (subst (λ n. Next t p (entry p e) (p + n)) (lay-size e (heads .0)) (gives t p (inl e) (subst (λ s. Heads s (inl e)) (sym is) heads)))
+
+  -- an ending leaves it where it is
+  pub gives-ending : (o : Ending) → Heads (kind ∷ body) (inr o) → Next t p (outcome o p) p
+  gives-ending o heads = subst (Next t p (outcome o p)) (add-zero p) (gives t p (inr o) (subst (λ s. Heads s (inr o)) (sym is) heads))
+
+  -- so does a body that is cut short; `?` has handed the fault on
+  pub gives-short : (r : Result Record Fault) → Known kind → length body < body-length kind → ((why : Fault) × (r ≡ Err why) × (why ≡ CutShort p)) → Next t p (told r) p
+  gives-short r known less (why, e, d) = subst (λ a. Next t p a p) (sym (ap told (e ∙ ap Err d))) (gives-ending (short kind body) ((known, less), refl))
+
+-- and so does the end of the bytes
+pub gives-nothing : (t : List ℕ) (p : ℕ) → drop p t ≡ [] → Next t p (outcome nothing p) p
+gives-nothing t p is = subst (Next t p (outcome nothing p)) (add-zero p) (gives t p (inr nothing) (tt, is))

@@ -7,7 +7,7 @@ use Prim.Native.Nat.{ℕ, _+_, _-_, _≤_, _<_}
 use native.Mathlib.Omega.{arith}
 use lib.Dec.{eqb, leb}
 use lib.ListN.{length, take, drop, length-append, length-take, length-drop}
-use Rattle.std.proofs.shelf.Lists.{append-assoc, take-at, drop-at, take-append-drop, take-take, drop-take, take-rest, drop-drop}
+use Rattle.std.proofs.shelf.Lists.{append-assoc, take-at, drop-at, take-append-drop, drop-drop}
 use Rattle.std.proofs.shelf.Tests.{cases-eq, cases-lt, eq-eqb, ne-eqb, le-leb, lt-leb}
 use Rattle.trace.specs.Layout.{Entry, enrol, amount, remark, Ending, end, unknown, short, trailing, nothing, body-length, Known, lay-entry, lay-ending, Proper-entry, Proper-ending}
 
@@ -98,9 +98,6 @@ pub heads-first : (t : List ℕ) (f : Head) → Heads t f → first t ≡ f
 heads-first t (inl e) (proper, (rest, is)) = ap first is ∙ entry-first e rest proper
 heads-first t (inr o) (proper, is) = ap first is ∙ ending-first o proper
 
-abbrev First-heads : List ℕ → Type 0
-First-heads t = Heads t (first t)
-
 -- two fields and what is behind them are the bytes that they were cut from
 glue-two : (m n : ℕ) (body : List ℕ) → (take m body ++ take n (drop m body)) ++ drop (m + n) body ≡ body
 glue-two m n body =
@@ -109,51 +106,56 @@ glue-two m n body =
     ∙ ap (λ l. take m body ++ l) (take-append-drop n (drop m body))
     ∙ take-append-drop m body
 
+-- a body that is long enough gives its record
+pub enrol-heads : (body : List ℕ) → 14 ≤ length body → Heads (1 ∷ body) (inl (enrol (take 8 body) (take 6 (drop 8 body))))
+enrol-heads body h = (
+  (omega (arith, length-take 8 body), omega (arith, length-take 6 (drop 8 body), length-drop 8 body)),
+  (drop 14 body, ap (λ l. 1 ∷ l) (sym (glue-two 8 6 body))),
+)
+
+pub amount-heads : (body : List ℕ) → 12 ≤ length body → Heads (2 ∷ body) (inl (amount (take 8 body) (take 4 (drop 8 body))))
+amount-heads body h = (
+  (omega (arith, length-take 8 body), omega (arith, length-take 4 (drop 8 body), length-drop 8 body)),
+  (drop 12 body, ap (λ l. 2 ∷ l) (sym (glue-two 8 4 body))),
+)
+
+pub remark-heads : (body : List ℕ) → 16 ≤ length body → Heads (3 ∷ body) (inl (remark (take 16 body)))
+remark-heads body h = (omega (arith, length-take 16 body), (drop 16 body, ap (λ l. 3 ∷ l) (sym (take-append-drop 16 body))))
+
+abbrev First-heads : List ℕ → Type 0
+First-heads t = Heads t (first t)
+
+-- a body is as long as its kind asks, or it is cut short
+either : (kind size : ℕ) (body : List ℕ) (e : Entry) → Known kind → body-length kind ≡ size → first (kind ∷ body) ≡ whole size kind body e
+    → (size ≤ length body → Heads (kind ∷ body) (inl e)) → First-heads (kind ∷ body)
+either kind size body e known long is made = elim (cases-lt (length body) size) [
+  | inl h ↦ subst (Heads (kind ∷ body)) (sym (is ∙ whole-short size kind body e h)) ((known, omega arith), refl)
+  | inr h ↦ subst (Heads (kind ∷ body)) (sym (is ∙ whole-enough size kind body e h)) (made h)
+]
+
+end-first : (body : List ℕ) → First-heads (4 ∷ body)
+end-first [] = (tt, refl)
+end-first (byte ∷ rest) = (tt, refl)
+
 -- every byte string is headed by its first
 pub first-heads : (t : List ℕ) → Heads t (first t)
 first-heads [] = (tt, refl)
 first-heads (kind ∷ body) = elim (cases-eq kind 1) [
-  | inl e ↦ subst (λ k. First-heads (k ∷ body)) (sym e) enrols
+  | inl e ↦ at e (either 1 14 body _ (omega arith, omega arith) refl refl (enrol-heads body))
   | inr d1 ↦ elim (cases-eq kind 2) [
-    | inl e ↦ subst (λ k. First-heads (k ∷ body)) (sym e) amounts
+    | inl e ↦ at e (either 2 12 body _ (omega arith, omega arith) refl refl (amount-heads body))
     | inr d2 ↦ elim (cases-eq kind 3) [
-      | inl e ↦ subst (λ k. First-heads (k ∷ body)) (sym e) remarks
+      | inl e ↦ at e (either 3 16 body _ (omega arith, omega arith) refl refl (remark-heads body))
       | inr d3 ↦ elim (cases-eq kind 4) [
-        | inl e ↦ subst (λ k. First-heads (k ∷ body)) (sym e) (ends body)
+        | inl e ↦ at e (end-first body)
         | inr d4 ↦ subst (Heads (kind ∷ body)) (sym (ending-first (unknown kind body) (none d1 d2 d3 d4))) (none d1 d2 d3 d4, refl)
       ]
     ]
   ]
 ]
   where
+    at : {k : ℕ} → kind ≡ k → First-heads (k ∷ body) → First-heads (kind ∷ body)
+    at e h = subst (λ k. First-heads (k ∷ body)) (sym e) h
+
     none : (kind ≡ 1 → ⊥) → (kind ≡ 2 → ⊥) → (kind ≡ 3 → ⊥) → (kind ≡ 4 → ⊥) → Known kind → ⊥
     none d1 d2 d3 d4 known = omega arith
-
-    -- a body of the kind's length heads as its record, and a shorter one is cut short
-    either : (k size : ℕ) (e : Entry) → Known k → body-length k ≡ size → first (k ∷ body) ≡ whole size k body e → (size ≤ length body → Heads (k ∷ body) (inl e)) → First-heads (k ∷ body)
-    either k size e known long is made = elim (cases-lt (length body) size) [
-      | inl h ↦ subst (Heads (k ∷ body)) (sym (is ∙ whole-short size k body e h)) ((known, omega arith), refl)
-      | inr h ↦ subst (Heads (k ∷ body)) (sym (is ∙ whole-enough size k body e h)) (made h)
-    ]
-
-    enrols : First-heads (1 ∷ body)
-    enrols = either 1 14 _ (omega arith, omega arith) refl refl (λ h. (
-      (omega (arith, length-take 8 body), omega (arith, length-take 6 (drop 8 body), length-drop 8 body)),
-      (drop 14 body, ap (λ l. 1 ∷ l) (sym (glue-two 8 6 body))),
-    ))
-
-    amounts : First-heads (2 ∷ body)
-    amounts = either 2 12 _ (omega arith, omega arith) refl refl (λ h. (
-      (omega (arith, length-take 8 body), omega (arith, length-take 4 (drop 8 body), length-drop 8 body)),
-      (drop 12 body, ap (λ l. 2 ∷ l) (sym (glue-two 8 4 body))),
-    ))
-
-    remarks : First-heads (3 ∷ body)
-    remarks = either 3 16 _ (omega arith, omega arith) refl refl (λ h. (
-      omega (arith, length-take 16 body),
-      (drop 16 body, ap (λ l. 3 ∷ l) (sym (take-append-drop 16 body))),
-    ))
-
-    ends : (rest : List ℕ) → First-heads (4 ∷ rest)
-    ends [] = (tt, refl)
-    ends (byte ∷ rest) = (tt, refl)

@@ -1,4 +1,5 @@
 pub mod Big
 pub mod Layout
 pub mod Answers
+pub mod Bodies
 pub mod Survey

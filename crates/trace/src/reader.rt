@@ -3,6 +3,7 @@ ghost use Prim.Native.Nat.{_≤_};
 ghost use denote.Ref.{now as held};
 ghost use lib.ListN.{length};
 
+mod bodies;
 mod reading;
 
 #[derive(Drop)]

@@ -1,23 +1,14 @@
 // How a reader goes through its trace.
 ghost use mathlib.Core.Path.{_≡_};
-ghost use Prim.Native.Nat.{ℕ, _+_, _<_, _≤_};
-ghost use lib.ListN.{length, take, drop};
-ghost use Rattle.std.specs.Results.{Cases};
+ghost use Prim.Native.Nat.{ℕ, _+_};
 ghost use Rattle.trace.specs.Answers.{told, answer, Stands};
 ghost use Rattle.trace.specs.Layout.{Reading, Lays};
 use crate::fault::Fault;
 use crate::reader::Reader;
+use crate::reader::bodies::amount_in;
+use crate::reader::bodies::enrol_in;
+use crate::reader::bodies::remark_in;
 use crate::record::Record;
-
-// The next `size` bytes of a body, and what is behind them.
-fn field(place: usize, bytes: &[u8], size: usize) -> Result<(&[u8], &[u8]), Fault>
-    ensures { λ r. ⌜ Cases r (λ parts. (size ≤ length (now (bytes .entry))) × (now (parts .0) ≡ take size (now (bytes .entry))) × (now (parts .1) ≡ drop size (now (bytes .entry)))) (λ why. (length (now (bytes .entry)) < size) × (why ≡ Fault.CutShort place)) ⌝ }
-{
-    if bytes.len() < size {
-        return Err(Fault::CutShort { place });
-    }
-    Ok(bytes.split_at(size))
-}
 
 impl<'a> Reader<'a> {
     // A reader before the first record.
@@ -39,21 +30,19 @@ impl<'a> Reader<'a> {
         };
         match *kind {
             1 => {
-                let (id, rest) = field(place, body, 8)?;
-                let (slots, _) = field(place, rest, 6)?;
+                let enrol = enrol_in(place, body)?;
                 self.place = place + 15;
-                Ok(Record::Enrol { place, id, slots })
+                Ok(enrol)
             }
             2 => {
-                let (id, rest) = field(place, body, 8)?;
-                let (units, _) = field(place, rest, 4)?;
+                let amount = amount_in(place, body)?;
                 self.place = place + 13;
-                Ok(Record::Amount { place, id, units })
+                Ok(amount)
             }
             3 => {
-                let (text, _) = field(place, body, 16)?;
+                let remark = remark_in(place, body)?;
                 self.place = place + 17;
-                Ok(Record::Remark { place, text })
+                Ok(remark)
             }
             4 => match body {
                 [] => Ok(Record::End { place }),
