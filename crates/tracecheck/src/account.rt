@@ -39,3 +39,56 @@ pub impl fmt::Display for Account as AccountDisplay {
         }
     }
 }
+
+#[cfg(test)]
+mod tests {
+    use super::*;
+    use std::test::*;
+
+    fn shown(rt: &LibcRuntime, trace: &[u8], expected: &str) -> Result<(), Fail> {
+        let account = Account {
+            bytes: trace.len(),
+            survey: Survey::of(trace),
+        };
+        let text = account.to_string(rt.alloc())?;
+        check(text.as_str() == expected).note(expected)
+    }
+
+    #[test]
+    fn nothing_at_all(rt: LibcRuntime) -> Result<(), Fail> {
+        shown(
+            &rt,
+            &[],
+            "bytes: 0\nenrols: 0\namounts: 0\nremarks: 0\nunits: 0\noutcome: fault 14\nat byte: 0\nmeaning: a trace that stops without an end record\n",
+        )
+    }
+
+    #[test]
+    fn the_end_alone(rt: LibcRuntime) -> Result<(), Fail> {
+        shown(
+            &rt,
+            &[4],
+            "bytes: 1\nenrols: 0\namounts: 0\nremarks: 0\nunits: 0\noutcome: end\nat byte: 0\nmeaning: the end record, with nothing behind it\n",
+        )
+    }
+
+    #[test]
+    fn faults_in_words(rt: LibcRuntime) -> Result<(), Fail> {
+        let amount = [2, 0, 0, 0, 0, 0, 0, 0, 1, 0, 0, 0, 11, 9];
+        shown(
+            &rt,
+            &amount,
+            "bytes: 14\nenrols: 0\namounts: 1\nremarks: 0\nunits: 11\noutcome: fault 11\nat byte: 13\nmeaning: a byte that is no kind of record\n",
+        )?;
+        shown(
+            &rt,
+            &amount[0..12],
+            "bytes: 12\nenrols: 0\namounts: 0\nremarks: 0\nunits: 0\noutcome: fault 12\nat byte: 0\nmeaning: a record whose body is cut short\n",
+        )?;
+        shown(
+            &rt,
+            &[4, 4],
+            "bytes: 2\nenrols: 0\namounts: 0\nremarks: 0\nunits: 0\noutcome: fault 13\nat byte: 0\nmeaning: an end record with bytes behind it\n",
+        )
+    }
+}
