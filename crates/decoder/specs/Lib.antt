@@ -1,0 +1,4 @@
+pub mod Limits
+pub mod Inputs
+pub mod Decoding
+pub mod Area

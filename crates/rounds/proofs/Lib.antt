@@ -1,0 +1,12 @@
+pub mod Order
+pub mod Sums
+pub mod Rows
+pub mod Tightest
+pub mod Replies
+pub mod Parity
+pub mod Holding
+pub mod Tightening
+pub mod Sweeps
+pub mod Closing
+pub mod Same
+pub mod Samples
