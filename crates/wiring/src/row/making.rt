@@ -32,4 +32,11 @@ impl Row {
     {
         &self.slots
     }
+
+    // The slots as a table keeps them.
+    pub fn to_array(&self) -> [u16; 3]
+        ensures { λ r. ⌜ r ≡ slots-of (now (self .entry)) ⌝ }
+    {
+        self.slots
+    }
 }

@@ -1,0 +1,73 @@
+// pile: shows a braid at work. A list of calls is run on a braid over a flat table, by the call whose
+// contract is the braid's promise; then the spans of its slots are printed at rising numbers of rounds.
+mod words;
+
+use braid::braid::Braid;
+use braid::braid::BraidStore;
+use ledger::calls::Answer;
+use ledger::calls::Call;
+use ledger::run::run_on_table;
+use std::error::AnyError;
+use store::flat::Flat;
+use store::flat::FlatStore;
+use store::store::Store;
+use wiring::depth::Depth;
+use words::Told;
+use words::ToldDisplay;
+
+// Three slots, of which the first two share two slots of the table; and calls that are declined: slots
+// that make no row, a slot that the table does not have, a wire once there is weight, a work area that
+// is too short.
+const CALLS: [Call<'static>; 10] = [
+    Call::Wire { slots: &[0, 1, 2] },
+    Call::Wire { slots: &[1, 2, 3] },
+    Call::Wire { slots: &[3, 4, 5] },
+    Call::Wire { slots: &[2, 1, 0] },
+    Call::Wire { slots: &[4, 5, 6] },
+    Call::Add { slot: 0, units: 11 },
+    Call::Add { slot: 1, units: 6 },
+    Call::Add { slot: 2, units: 3 },
+    Call::Wire { slots: &[0, 2, 4] },
+    Call::Settle {
+        rounds: 3,
+        room: 100,
+    },
+];
+
+fn show_spans(rt: &LibcRuntime, pile: &mut Braid<Flat>, work: &mut [u64]) -> Result<(), AnyError> {
+    for rounds in 0..5 {
+        if pile.settle(rounds, work).is_err() {
+            return Err("not settled".into());
+        }
+        for slot in 0..pile.slots() {
+            let Ok(span) = pile.span(slot) else {
+                return Err("no span".into());
+            };
+            let low = span.low;
+            let high = span.high;
+            println!(rt, "rounds {rounds}: slot {slot} holds {low} to {high}")?;
+        }
+    }
+    Ok(())
+}
+
+fn run(rt: &LibcRuntime) -> Result<(), AnyError> {
+    let Ok(depth) = Depth::new(2) else {
+        return Err("no depth".into());
+    };
+    let mut table = [0; 6];
+    let mut work = [0; 7168];
+    let mut answers = [Answer::Settled(0); 10];
+    let (mut pile, _) = run_on_table(&mut table, depth, &CALLS, &mut work, &mut answers);
+    for (call, answer) in CALLS.iter().zip(answers.iter()) {
+        rt.println(Told {
+            call: *call,
+            answer: *answer,
+        })?;
+    }
+    show_spans(rt, &mut pile, &mut work)
+}
+
+fn main(rt: LibcRuntime) -> Result<(), AnyError> {
+    rt.report(run(&rt))
+}
