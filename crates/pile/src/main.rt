@@ -1,5 +1,6 @@
-// pile: shows a braid at work. A list of calls is run on a braid over a flat table, by the call whose
-// contract is the braid's promise; then the spans of its slots are printed at rising numbers of rounds.
+// pile: shows braids at work. A list of calls is run on a braid over a flat table, by the call whose
+// contract is the braid's promise, and the spans of its slots are printed at rising numbers of rounds.
+// Then a pile of three braids is wired, filled and settled.
 mod words;
 
 use braid::braid::Braid;
@@ -12,6 +13,7 @@ use store::flat::Flat;
 use store::flat::FlatStore;
 use store::store::Store;
 use wiring::depth::Depth;
+use wiring::row::Row;
 use words::Told;
 use words::ToldDisplay;
 
@@ -34,19 +36,72 @@ const CALLS: [Call<'static>; 10] = [
     },
 ];
 
-fn show_spans(rt: &LibcRuntime, pile: &mut Braid<Flat>, work: &mut [u64]) -> Result<(), AnyError> {
-    for rounds in 0..5 {
-        if pile.settle(rounds, work).is_err() {
-            return Err("not settled".into());
+fn show_spans<S: Store>(
+    rt: &LibcRuntime,
+    pile: &mut S,
+    rounds: u16,
+    work: &mut [u64],
+) -> Result<(), AnyError> {
+    if pile.settle(rounds, work).is_err() {
+        return Err("not settled".into());
+    }
+    for slot in 0..pile.slots() {
+        let Ok(span) = pile.span(slot) else {
+            return Err("no span".into());
+        };
+        let low = span.low;
+        let high = span.high;
+        println!(rt, "rounds {rounds}: slot {slot} holds {low} to {high}")?;
+    }
+    Ok(())
+}
+
+fn one_braid(rt: &LibcRuntime, depth: Depth, work: &mut [u64]) -> Result<(), AnyError> {
+    let mut table = [0; 6];
+    let mut answers = [Answer::Settled(0); 10];
+    let (mut pile, _) = run_on_table(&mut table, depth, &CALLS, work, &mut answers);
+    for (call, answer) in CALLS.iter().zip(answers.iter()) {
+        rt.println(Told {
+            call: *call,
+            answer: *answer,
+        })?;
+    }
+    for rounds in 0..4 {
+        show_spans(rt, &mut pile, rounds, work)?;
+    }
+    Ok(())
+}
+
+// A braid with so many slots, each on three neighbours below.
+fn stacked<S: Store>(below: S, depth: Depth, slots: u16) -> Result<Braid<S>, AnyError>
+where
+    S: Drop,
+{
+    let mut braid = Braid::new(below, depth);
+    for i in 0..slots {
+        let Ok(row) = Row::new(i, i.saturating_add(1), i.saturating_add(2)) else {
+            return Err("no row".into());
+        };
+        if braid.wire(row).is_err() {
+            return Err("not wired".into());
         }
-        for slot in 0..pile.slots() {
-            let Ok(span) = pile.span(slot) else {
-                return Err("no span".into());
-            };
-            let low = span.low;
-            let high = span.high;
-            println!(rt, "rounds {rounds}: slot {slot} holds {low} to {high}")?;
+    }
+    Ok(braid)
+}
+
+fn three_braids(rt: &LibcRuntime, depth: Depth, work: &mut [u64]) -> Result<(), AnyError> {
+    let mut table = [0; 9];
+    let bottom = stacked(Flat::new(&mut table), depth, 7)?;
+    let middle = stacked(bottom, depth, 5)?;
+    let mut top: Braid<Braid<Braid<Flat>>> = stacked(middle, depth, 3)?;
+    for (slot, units) in [(0, 1000), (1, 70), (2, 3)] {
+        if top.add(slot, units).is_err() {
+            return Err("not added".into());
         }
+    }
+    println!(rt, "a pile of three: 1000, 70 and 3 units were added")?;
+    for rounds in [0, 1, 2, 12] {
+        show_spans(rt, &mut top, rounds, work)?;
     }
     Ok(())
 }
@@ -55,17 +110,9 @@ fn run(rt: &LibcRuntime) -> Result<(), AnyError> {
     let Ok(depth) = Depth::new(2) else {
         return Err("no depth".into());
     };
-    let mut table = [0; 6];
     let mut work = [0; 7168];
-    let mut answers = [Answer::Settled(0); 10];
-    let (mut pile, _) = run_on_table(&mut table, depth, &CALLS, &mut work, &mut answers);
-    for (call, answer) in CALLS.iter().zip(answers.iter()) {
-        rt.println(Told {
-            call: *call,
-            answer: *answer,
-        })?;
-    }
-    show_spans(rt, &mut pile, &mut work)
+    one_braid(rt, depth, &mut work)?;
+    three_braids(rt, depth, &mut work)
 }
 
 fn main(rt: LibcRuntime) -> Result<(), AnyError> {
