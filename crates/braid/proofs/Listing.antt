@@ -25,10 +25,6 @@ listed-suc (suc n) f = ap (λ l. f 0 ∷ l) (listed-suc n (λ k. f (suc k)))
 pub listed-more : {X : Type 0} (n : ℕ) (f : ℕ → X) → listed (n + 1) f ≡ listed n f ++ f n ∷ []
 listed-more n f = ap (λ k. listed k f) (add-one n) ∙ listed-suc n f
 
-pub listed-length : {X : Type 0} (n : ℕ) (f : ℕ → X) → length (listed n f) ≡ n
-listed-length zero f = refl
-listed-length (suc n) f = ap suc (listed-length n (λ k. f (suc k)))
-
 pub reach-within : (row : List ℕ) → Within 1024 row → reach row ≡ true
 reach-within [] w = refl
 reach-within (slot ∷ row) w = and-from (ltb slot 1024) (reach row) (lt-ltb slot 1024 (w .0)) (reach-within row (w .1))
@@ -44,9 +40,6 @@ row-made row made one is = at (is-row row) one is
     at : (t : Bool) → t ≡ true → _≡_ {A = Result (List ℕ) ℕ} (Ok made) (cond t (Ok row) (Err 5)) → made ≡ row
     at true one e = cc
     at false one e = let z : _≡_ {A = ℕ} 0 1 = cc in absurd (omega arith)
-
-pub ok-not-err : {X E : Type 0} (x : X) (e : E) → _≡_ {A = Result X E} (Err e) (Ok x) → ⊥
-ok-not-err x e is = let z : _≡_ {A = ℕ} 0 1 = cc in omega arith
 
 pub same-ok : {X E : Type 0} (x y : X) → _≡_ {A = Result X E} (Ok x) (Ok y) → x ≡ y
 same-ok x y is = cc

@@ -10,6 +10,7 @@ use lib.Dec.{eqb, leb}
 use lib.ListN.{length, getD, take, set, replicate, length-replicate, length-set}
 use Rattle.std.proofs.shelf.Lists.{getD-set-same, getD-set-other, getD-append-left, getD-push, length-push, length-take-le, take-more-set}
 use Rattle.std.proofs.shelf.Tests.{both-ways, cases-eq, lt-leb}
+use Rattle.store.specs.FlatMeaning.{entry-light}
 use Rattle.store.specs.Meaning.{Meaning, Laws, Live, Fresh, Within}
 use Rattle.store.specs.Totals.{total}
 use Rattle.store.specs.Sums.{slot-sums}
@@ -23,9 +24,7 @@ use Rattle.braid.proofs.Depths.{modulus-least}
 
 -- a list that adds up to 0 has no entry above 0
 pub entry-none : (T : List ℕ) (i : ℕ) → total T ≡ 0 → getD T i 0 ≡ 0
-entry-none [] i h = refl
-entry-none (x ∷ T) zero h = omega arith
-entry-none (x ∷ T) (suc i) h = entry-none T i (omega arith)
+entry-none T i h = omega (arith, entry-light T i)
 
 module _ {S : Type 0} (m : Meaning S) (below : S) (depth : ℕ) (shallow : 2 ≤ depth) (deep : depth ≤ 16) where
   abbrev made : Braid S

@@ -68,5 +68,5 @@ module _ {S : Type 0} (m : Meaning S) where
       record { sound = so .sound; totals = spread (live .totals) row n; admitted = so .admits (live .totals) (live .admitted) }
 
 -- a call that is owed an answer was not refused
-pub no-refusal : {X : Type 0} (why : ℕ) (x : X) → _≡_ {A = Result X ℕ} (Err why) (Ok x) → ⊥
+pub no-refusal : {X E : Type 0} (why : E) (x : X) → _≡_ {A = Result X E} (Err why) (Ok x) → ⊥
 no-refusal why x is = let z : _≡_ {A = ℕ} 0 1 = cc in omega arith

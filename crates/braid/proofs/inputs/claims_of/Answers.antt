@@ -4,11 +4,13 @@ use Prim.Native.Nat.{_<_}
 use native.Mathlib.Omega.{arith}
 use lib.ListN.{length}
 use Rattle.store.specs.Sums.{listed}
+use Rattle.store.proofs.Spreading.{no-refusal}
+use Rattle.store.proofs.Sums.{length-listed}
 use Rattle.decoder.specs.Inputs.{claimants}
 use Rattle.std.specs.declared.result.Result.the-variants.{Ok}
 use Rattle.braid.specs.BraidMeaning.{claimant}
 use Rattle.braid.specs.Layers.{Claimable}
-use Rattle.braid.proofs.Listing.{listed-more, listed-length, ok-not-err}
+use Rattle.braid.proofs.Listing.{listed-more}
 use Rattle.braid.proofs.inputs.claims_of.Needs as need
 use Rattle.braid.proofs.inputs.claims_of.Needs.{After-push-claim}
 
@@ -21,11 +23,11 @@ taken-at c able =
     let inside : i < c .args .layer .now .count = omega arith in
     let at = able .1 i inside in
     let so = c .loop-i .inv able in
-    c .push-claim .ensures (at .0) (at .1) (omega (arith, ap length so, listed-length i (claimant (c .args .layer .now))))
+    c .push-claim .ensures (at .0) (at .1) (omega (arith, ap length so, length-listed i (claimant (c .args .layer .now))))
 
 pub returns-in-Break-push-claim : need.returns-in-Break-push-claim
 returns-in-Break-push-claim c = λ able.
-    absurd (ok-not-err _ _ (sym (c .in-Break-push-claim .was tt) ∙ taken-at (need.at·returns-in-Break-push-claim c .After-push-claim) able .0))
+    absurd (no-refusal _ _ (sym (c .in-Break-push-claim .was tt) ∙ taken-at (need.at·returns-in-Break-push-claim c .After-push-claim) able .0))
 
 pub loop-i-again : need.loop-i-again
 loop-i-again c = λ able.

@@ -11,7 +11,9 @@ use Rattle.decoder.specs.Inputs.{spans-in, grown}
 use Rattle.rounds.specs.declared.span.Span.{Span}
 use Rattle.store.specs.Meaning.{Live}
 use Rattle.store.specs.Sums.{listed}
-use Rattle.braid.proofs.Listing.{listed-more, listed-length, told-taken, ok-not-err, same-ok}
+use Rattle.store.proofs.Spreading.{no-refusal}
+use Rattle.store.proofs.Sums.{length-listed}
+use Rattle.braid.proofs.Listing.{listed-more, told-taken, same-ok}
 use Rattle.braid.proofs.inputs.spans_of.Given as given
 use Rattle.braid.proofs.inputs.spans_of.Needs as need
 use Rattle.braid.proofs.inputs.spans_of.Needs.{After-push}
@@ -30,7 +32,7 @@ taken-at g c live =
     let inside : slot < m .slots b = omega (arith, c .slots-slot-end .ensures) in
     let span : c .in-Continue-span .span ≡ m .spans b (m .rounds b) slot = same-ok _ _ (c .in-Continue-span .ensures tt live .span inside) in
     let room : length known < 1024 =
-    omega (arith, ap length (c .loop-slot .inv live), listed-length slot (m .spans b (m .rounds b)), laws .few b (live .sound)) in
+    omega (arith, ap length (c .loop-slot .inv live), length-listed slot (m .spans b (m .rounds b)), laws .few b (live .sound)) in
     let low : c .in-Continue-span .span .low ≤ 2 ^ 40 =
     omega (arith, ap (λ (s : Span). s .low) span, laws .low-light b (live .sound) (m .rounds b) slot inside, laws .light b (live .sound)) in
     let high : c .in-Continue-span .span .high ≤ 2 ^ 40 =
@@ -44,7 +46,7 @@ taken-at g c live =
 pub returns-in-Break-taken : need.returns-in-Break-taken
 returns-in-Break-taken g c = λ live.
     let at = taken-at g (need.at·returns-in-Break-taken g c .After-push) live in
-    absurd (ok-not-err _ _ (sym (c .in-Break-taken .was tt) ∙ c .taken .ensures _ (at .0)))
+    absurd (no-refusal _ _ (sym (c .in-Break-taken .was tt) ∙ c .taken .ensures _ (at .0)))
 
 pub loop-slot-again : need.loop-slot-again
 loop-slot-again g c = λ live.
