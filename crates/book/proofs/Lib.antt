@@ -1,0 +1,12 @@
+pub mod Flows
+pub mod Says
+pub mod Keeping
+pub mod AddingUp
+pub mod Rows
+pub mod Lines
+pub mod Reading
+pub mod Steps
+pub mod Replaying
+pub mod AsCalls
+pub mod Running
+pub mod Beneath
