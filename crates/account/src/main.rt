@@ -1,5 +1,7 @@
 // account: standard input is the trace of a month; standard output tells in words what each flow had.
 // The work is `month::month`; here it is only read in and printed.
+#![tactic(auto)]
+
 mod sheet;
 
 use anyhow::anyhow;

@@ -1,5 +1,7 @@
 // The book of an epoch: what its calls are to answer, said over flows and records alone, and what follows from that for
 // whole lists of calls and for the lines of the flows. Nothing here runs; whoever keeps an epoch proves against it.
+#![tactic(auto)]
+
 ghost use Rattle.book.specs.LineLaws.{LinesHold, LinesTighten, LinesClose};
 ghost use Rattle.book.specs.Replays.{ReplaysAsCalls};
 ghost use Rattle.book.specs.Runs.{UnitsAddUp};

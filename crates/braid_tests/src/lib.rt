@@ -1,5 +1,7 @@
 // Tests of flat stores and of braids: cases worked by hand, every refusal in its order, a pile of three, and
 // generated piles held against a second account that shares nothing with the first.
+#![tactic(auto)]
+
 #[cfg(test)]
 mod cases;
 #[cfg(test)]

@@ -1,5 +1,7 @@
 // The decoding rounds, run in memory that the caller lends, with exactly the answers of the definitions in `rounds`.
 // What it needs of claimants and spans is the invariant of their types, so a call asks nothing of its caller.
+#![tactic(auto)]
+
 ghost use Rattle.std.specs.Prelude.{◌≡◌, true, false, length, is_ok};
 ghost use Rattle.decoder.specs.Inputs.{claimants, spanAt};
 ghost use Rattle.decoder.specs.Decoding.{told, answer, Decoded};

@@ -1,6 +1,8 @@
 // pile: shows braids at work. A list of calls is run on a braid over a flat table, by the call whose
 // contract is the braid's promise, and the spans of its slots are printed at rising numbers of rounds.
 // Then a pile of three braids is wired, filled and settled.
+#![tactic(auto)]
+
 mod words;
 
 use anyhow::anyhow;

@@ -1,5 +1,7 @@
 // The laws of the decoding rounds and some small cases, each as the contract of a function.
 // The definitions are in specs/Rounds.antt; nothing here runs, and whoever runs the rounds proves against them.
+#![tactic(auto)]
+
 pub mod span;
 
 ghost use Rattle.rounds.specs.Laws.{BoundsHold, MoreRoundsTighten};

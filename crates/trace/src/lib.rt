@@ -1,5 +1,7 @@
 // A trace: the run of records by which a line card tells what it saw in a month.
 // `Reader` hands out its records one by one; `survey` goes over a whole trace and counts.
+#![tactic(auto)]
+
 pub mod fault;
 pub mod number;
 pub mod reader;

@@ -1,5 +1,7 @@
 // tracecheck: standard input is a trace; standard output is a short account of it.
 // The counting is `trace::survey`; here it is only read in and printed.
+#![tactic(auto)]
+
 mod account;
 
 use account::Account;
