@@ -14,7 +14,7 @@ import re
 import sys
 
 DEFINED = re.compile(r"( *)(?:(?:abbrev|opaque|unfoldable|pub|instance)\s+)*(?:(?:record|data)\s+)?([^\s:(){},.=|\"]+)(?:\s+[^=]*?)?\s*:(?:\s|$)")
-TOKEN = re.compile(r"(?<![\w'·-])[A-Za-z][\w'·]*(?:-[\w'·]+)+(?![\w'·-])|(?<![\w'·-])get_d_\w+(?![\w'·-])")
+TOKEN = re.compile(r"(?<![\w'·-])[A-Za-z][\w'·]*(?:-[\w'·]+)*(?![\w'·-])")
 LIBRARY = re.compile(r"use Rattle\.(?:std|core)\S*\.\{([^}]*)\}|use borrow\S*\.\{([^}]*)\}")
 
 
@@ -33,14 +33,11 @@ def read(path):
 
 
 def respelled(name):
-    if name.startswith("getD-"):
-        name = "get_or-" + name[5:]
-    if name.startswith("get_d_"):
-        name = "get_or_" + name[6:]
+    name = re.sub(r"(?<![^_-])(?:getD|get_d)(?![^_-])", "get_or", name)
     parts = name.split("-")
     if name[0].isupper():
         return "".join(p[:1].upper() + p[1:] for p in parts)
-    return "_".join(parts)
+    return "_".join(re.sub(r"(?<=[a-z])[A-Z](?=[a-z])", lambda m: "_" + m[0].lower(), p) for p in parts)
 
 
 def table():

@@ -8,7 +8,7 @@ use Rattle.store.specs.FlatMeaning.{entry_light}
 use Rattle.store.specs.Meaning.{Meaning, Laws, Live, Fresh, Within}
 use Rattle.store.specs.Totals.{total}
 use Rattle.store.specs.Sums.{slot_sums}
-use Rattle.store.proofs.Sums.{listed_getD, sums_push}
+use Rattle.store.proofs.Sums.{listed_get_or, sums_push}
 use Rattle.wiring.specs.Rising.{is_row}
 use Rattle.braid.specs.declared.braid.Braid.{Braid}
 use Rattle.braid.specs.declared.layer.Layer.{Layer}
@@ -56,7 +56,7 @@ module _ {S : Type 0} (m : Meaning S) (below : S) (depth : ℕ) (shallow : 2 ≤
   }
     where
       none : fresh.live.totals ≡ slot_sums (m.slots below) [] (carried m (blank depth) [])
-      none = sym (listed_getD (m.slots below) (λ slot. 0) fresh.live.totals 0 (laws.long below fresh.live.sound _ fresh.live.admitted)
+      none = sym (listed_get_or (m.slots below) (λ slot. 0) fresh.live.totals 0 (laws.long below fresh.live.sound _ fresh.live.admitted)
           (λ k h. sym (entry_none fresh.live.totals k (laws.adds below fresh.live.sound _ fresh.live.admitted ∙ fresh.empty))))
 
 -- a cell of a table that was written, and the others

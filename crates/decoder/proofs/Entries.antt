@@ -10,7 +10,7 @@ use Rattle.decoder.specs.declared.spans.Spans.{Spans}
 use Rattle.decoder.specs.declared.unfit.Unfit.{Unfit}
 use Rattle.decoder.specs.declared.unfit.Unfit.TheVariants.{Full, Large, Slot}
 use Rattle.decoder.specs.Limits.{reach}
-use Rattle.decoder.specs.Inputs.{claimant_of, claimants, claim_told, span_of, spans_in, spanAt, span_told}
+use Rattle.decoder.specs.Inputs.{claimant_of, claimants, claim_told, span_of, spans_in, span_at, span_told}
 
 -- The first n entries of a table, read by f.
 module _ {X Y : Type 0} (f : X → Y) (xs : List X) (n : ℕ) where
@@ -67,11 +67,11 @@ module _ (spans : Spans) where
   unfolding spans_in
   spans_many = front_length span_of spans.entries spans.count (omega arith)
 
-  pub spans_at : (s : ℕ) (d : Ends) → s < spans.count → spanAt spans s ≡ span_of (get_or spans.entries s d)
+  pub spans_at : (s : ℕ) (d : Ends) → s < spans.count → span_at spans s ≡ span_of (get_or spans.entries s d)
   unfolding spans_in
   spans_at s d lt = front_at span_of spans.entries spans.count s d _ (omega arith) lt
 
-  pub spans_past : (s : ℕ) → spans.count ≤ s → spanAt spans s ≡ record { low = 0; high = 0 }
+  pub spans_past : (s : ℕ) → spans.count ≤ s → span_at spans s ≡ record { low = 0; high = 0 }
   unfolding spans_in
   spans_past s le = front_past span_of spans.entries spans.count s _ (omega arith) le
 

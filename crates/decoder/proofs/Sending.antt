@@ -6,7 +6,7 @@ use Rattle.rounds.specs.Rounds.{row_of, has, share}
 use Rattle.rounds.proofs.Sums.{sum_more}
 use Rattle.decoder.specs.declared.claims.Claims.{Claims}
 use Rattle.decoder.specs.Inputs.{claimants}
-use Rattle.decoder.specs.Area.{place, mail, Small, restTo}
+use Rattle.decoder.specs.Area.{place, mail, Small, rest_to}
 
 -- The slot is not among the first p of the row.
 pub record Passed (s : ℕ) (row : List ℕ) (p : ℕ) : Type 0 where
@@ -65,11 +65,11 @@ module _ (claims : Claims) (msgs : List ℕ) (s j : ℕ) where
   pub share_small : Small claims msgs → own ≤ 2 ^ 40
   share_small small = cond_both (has s row) (sent j) 0 (λ v. v ≤ 2 ^ 40) (λ e. small j s e) (λ e. omega arith)
 
-  rest_more : (i : ℕ) → restTo claims msgs s i (j + 1) ≡ restTo claims msgs s i j + cond (eqb j i) 0 own
+  rest_more : (i : ℕ) → rest_to claims msgs s i (j + 1) ≡ rest_to claims msgs s i j + cond (eqb j i) 0 own
   rest_more i = sum_more j (λ k. cond (eqb k i) 0 (share (claimants claims) sent s k))
 
-  pub rest_skip : (i : ℕ) → j ≡ i → restTo claims msgs s i (j + 1) ≡ restTo claims msgs s i j
+  pub rest_skip : (i : ℕ) → j ≡ i → rest_to claims msgs s i (j + 1) ≡ rest_to claims msgs s i j
   rest_skip i e = omega (arith, rest_more i, cond-true (eqb j i) 0 own (eq-eqb j i e))
 
-  pub rest_take : (i : ℕ) → j ≢ i → restTo claims msgs s i (j + 1) ≡ restTo claims msgs s i j + own
+  pub rest_take : (i : ℕ) → j ≢ i → rest_to claims msgs s i (j + 1) ≡ rest_to claims msgs s i j + own
   rest_take i d = omega (arith, rest_more i, cond-false (eqb j i) 0 own (ne_eqb j i d))

@@ -10,9 +10,9 @@ use Rattle.rounds.proofs.Replies.{rest_same}
 use Rattle.rounds.proofs.Parity.{last_even_here, last_odd_here, last_even_stays, last_odd_stays}
 use Rattle.decoder.specs.declared.claims.Claims.{Claims}
 use Rattle.decoder.specs.declared.spans.Spans.{Spans}
-use Rattle.decoder.specs.Inputs.{claimants, spanAt}
+use Rattle.decoder.specs.Inputs.{claimants, span_at}
 use Rattle.decoder.specs.Decoding.{Absent, Tabled}
-use Rattle.decoder.specs.Area.{mail, Small, replyTo, Written, Sent, Begun, Answered, Standing}
+use Rattle.decoder.specs.Area.{mail, Small, reply_to, Written, Sent, Begun, Answered, Standing}
 use Rattle.decoder.proofs.Wired.{floors_small, edges_small}
 use Rattle.decoder.proofs.Filing.{sent_skip, sent_more, filed_skip, filed_more}
 
@@ -24,7 +24,7 @@ cond_not : (b : Bool) (xs ys : List ℕ) → cond (not b) xs ys ≡ cond b ys xs
 cond_not true xs ys = refl
 cond_not false xs ys = refl
 
-message_small : (claims : Claims) (spans : Spans) (t i s : ℕ) → message (claimants claims) (spanAt spans) t i s ≤ 2 ^ 40
+message_small : (claims : Claims) (spans : Spans) (t i s : ℕ) → message (claimants claims) (span_at spans) t i s ≤ 2 ^ 40
 message_small claims spans zero i s = floors_small claims i
 message_small claims spans (suc t) i s = tightest_most (odd (suc t)) _ (2 ^ 40) (besides s (row_of (claimants claims) i))
     (λ a _. omega (arith, floors_small claims i, edges_small spans (odd (suc t)) a))
@@ -52,14 +52,14 @@ module _ (claims : Claims) (spans : Spans) where
   cs = claimants claims
 
   abbrev sp : ℕ → Span
-  sp = spanAt spans
+  sp = span_at spans
 
   inside : (j : ℕ) → TakesPart cs j → j < length cs
   inside j on = let r = filled_has (row_of cs j) on in uses_inside cs j r.0 r.1
 
   -- Where the messages of round t are in an area, what is made of them is of round t + 1.
   module _ (t : ℕ) (msgs : List ℕ) (held : Sent claims (message cs sp t) msgs (length cs)) where
-    reply_same : (up : Bool) (i s : ℕ) → replyTo claims spans up msgs i s ≡ reply cs sp up (message cs sp t) i s
+    reply_same : (up : Bool) (i s : ℕ) → reply_to claims spans up msgs i s ≡ reply cs sp up (message cs sp t) i s
     reply_same up i s = ap (λ r. max (floor_of cs i) (edge up (sp s) - r))
         (rest_same cs (λ j. mail claims msgs j s) (λ j. message cs sp t j s) s i (λ j _ on. held j s (uses_inside cs j s on) on))
 

@@ -6,7 +6,7 @@ use Rattle.decoder.specs.declared.claims.Claims.{Claims}
 use Rattle.decoder.specs.declared.spans.Spans.{Spans}
 use Rattle.decoder.specs.Inputs.{claimants}
 use Rattle.decoder.specs.Decoding.{Absent}
-use Rattle.decoder.specs.Area.{place, replyTo, nextMail, nextEstimate, but, Written, Answered}
+use Rattle.decoder.specs.Area.{place, reply_to, next_mail, next_estimate, but, Written, Answered}
 use Rattle.decoder.proofs.Wired.{rows_distinct}
 use Rattle.decoder.proofs.Gathering.{but_none, but_besides}
 use Rattle.decoder.proofs.Filing.{sent_skip, sent_more, filed_skip, filed_more}
@@ -31,28 +31,28 @@ module _ (claims : Claims) (spans : Spans) (up : Bool) (old fresh before table :
   pub answered_skip : Absent (claimants claims) i → Answered claims spans up old fresh before table i →
       Answered claims spans up old fresh before table (i + 1)
   answered_skip off done = record {
-    mails = sent_skip claims (nextMail claims spans up old) i fresh off done.mails;
-    estimates = filed_skip claims (nextEstimate claims spans up old) before table i done.estimates off;
+    mails = sent_skip claims (next_mail claims spans up old) i fresh off done.mails;
+    estimates = filed_skip claims (next_estimate claims spans up old) before table i done.estimates off;
   }
 
   -- The claimant has `replies`, has written messages by them, and files the estimate x.
   module _ (row : List ℕ) (is : row ≡ row_of (claimants claims) i) (some : 0 < length row) (room : i < length table) where
-    pub answered_more : (after replies : List ℕ) (x : ℕ) → replies ≡ map (replyTo claims spans up old i) row →
+    pub answered_more : (after replies : List ℕ) (x : ℕ) → replies ≡ map (reply_to claims spans up old i) row →
         Written fresh after (3 * i) (length replies) (λ p. tightest up (but p replies)) → x ≡ tightest up (but (length row) replies) →
         Answered claims spans up old fresh before table i → Answered claims spans up old after before (set table i x) (i + 1)
     answered_more after replies x e w q done =
         let own = row_of (claimants claims) i in
-        let f : ℕ → ℕ = replyTo claims spans up old i in
+        let f : ℕ → ℕ = reply_to claims spans up old i in
         let tell : ℕ → ℕ = λ p. tightest up (but p replies) in
         let e' : replies ≡ map f own = e ∙ ap (map f) is in
         let same : length replies ≡ length own = ap length e' ∙ length-map own f in
         record {
-          mails = sent_more claims (nextMail claims spans up old) i fresh after tell done.mails
+          mails = sent_more claims (next_mail claims spans up old) i fresh after tell done.mails
               (subst (λ n. Written fresh after (3 * i) n tell) same w)
               (λ s on.
               ap (λ l. tightest up (but (place s own) l)) e'
               ∙ ap (tightest up) (but_besides f s own (rows_distinct claims i) on));
-          estimates = filed_more claims (nextEstimate claims spans up old) before table i done.estimates x room
+          estimates = filed_more claims (next_estimate claims spans up old) before table i done.estimates x room
               (part_row claims i row is some)
               (q ∙ ap (tightest up) (but_none (length row) replies (omega (arith, same, ap length is)) ∙ e'));
         }

@@ -11,7 +11,7 @@ use Rattle.decoder.specs.declared.claims.Claims.{Claims}
 use Rattle.decoder.specs.declared.spans.Ends.{Ends}
 use Rattle.decoder.specs.declared.spans.Spans.{Spans}
 use Rattle.decoder.specs.Limits.{slots_in}
-use Rattle.decoder.specs.Inputs.{claimant_of, claimants, span_of, spans_in, spanAt}
+use Rattle.decoder.specs.Inputs.{claimant_of, claimants, span_of, spans_in, span_at}
 
 -- A rising row has no slot twice.
 
@@ -84,7 +84,7 @@ module _ (claims : Claims) where
   unfolding claimants
   floors_small = at_floor (take claims.count claims.entries)
 
-pub edges_small : (spans : Spans) (up : Bool) (s : ℕ) → edge up (spanAt spans s) ≤ 2 ^ 40
+pub edges_small : (spans : Spans) (up : Bool) (s : ℕ) → edge up (span_at spans s) ≤ 2 ^ 40
 unfolding spans_in
 edges_small spans true s = at_high (take spans.count spans.entries) s
 edges_small spans false s = at_low (take spans.count spans.entries) s

@@ -4,7 +4,7 @@ use Rattle.rounds.specs.Rounds.{row_of, floor_of, Uses, TakesPart, besides, sum,
 use Rattle.rounds.specs.Rounds.{odd, message, Low, High}
 use Rattle.decoder.specs.declared.claims.Claims.{Claims}
 use Rattle.decoder.specs.declared.spans.Spans.{Spans}
-use Rattle.decoder.specs.Inputs.{claimants, spanAt}
+use Rattle.decoder.specs.Inputs.{claimants, span_at}
 use Rattle.decoder.specs.Decoding.{Absent}
 
 -- Where slot s stands in a row.
@@ -21,20 +21,20 @@ abbrev pub Small : Claims → List ℕ → Type 0
 Small claims msgs = (j s : ℕ) → Uses (claimants claims) j s → mail claims msgs j s ≤ 2 ^ 40
 
 -- What those of the first n claimants other than i have sent to slot s.
-abbrev pub restTo : Claims → List ℕ → ℕ → ℕ → ℕ → ℕ
-restTo claims msgs s i n = sum n (λ j. cond (j == i) 0 (share (claimants claims) (λ k. mail claims msgs k s) s j))
+abbrev pub rest_to : Claims → List ℕ → ℕ → ℕ → ℕ → ℕ
+rest_to claims msgs s i n = sum n (λ j. cond (j == i) 0 (share (claimants claims) (λ k. mail claims msgs k s) s j))
 
 -- The reply of slot s to claimant i after the messages msgs.
-abbrev pub replyTo : Claims → Spans → Bool → List ℕ → ℕ → ℕ → ℕ
-replyTo claims spans up msgs i s = reply (claimants claims) (spanAt spans) up (mail claims msgs) i s
+abbrev pub reply_to : Claims → Spans → Bool → List ℕ → ℕ → ℕ → ℕ
+reply_to claims spans up msgs i s = reply (claimants claims) (span_at spans) up (mail claims msgs) i s
 
 -- What claimant i makes of them: its message to slot s, and its estimate.
-abbrev pub nextMail : Claims → Spans → Bool → List ℕ → ℕ → ℕ → ℕ
-nextMail claims spans up msgs i s =
-    gathered (claimants claims) (spanAt spans) up (mail claims msgs) i (besides s (row_of (claimants claims) i))
+abbrev pub next_mail : Claims → Spans → Bool → List ℕ → ℕ → ℕ → ℕ
+next_mail claims spans up msgs i s =
+    gathered (claimants claims) (span_at spans) up (mail claims msgs) i (besides s (row_of (claimants claims) i))
 
-abbrev pub nextEstimate : Claims → Spans → Bool → List ℕ → ℕ → ℕ
-nextEstimate claims spans up msgs i = gathered (claimants claims) (spanAt spans) up (mail claims msgs) i (row_of (claimants claims) i)
+abbrev pub next_estimate : Claims → Spans → Bool → List ℕ → ℕ → ℕ
+next_estimate claims spans up msgs i = gathered (claimants claims) (span_at spans) up (mail claims msgs) i (row_of (claimants claims) i)
 
 -- A list without its element at a place.
 abbrev pub but : ℕ → List ℕ → List ℕ
@@ -63,13 +63,13 @@ pub record Begun (claims : Claims) (msgs before table : List ℕ) (n : ℕ) : Ty
 
 -- The first n claimants have answered the messages `old` with `fresh`, and have their estimates in a table.
 pub record Answered (claims : Claims) (spans : Spans) (up : Bool) (old fresh before table : List ℕ) (n : ℕ) : Type 0 where
-  pub mails : Sent claims (nextMail claims spans up old) fresh n
-  pub estimates : Filed claims (nextEstimate claims spans up old) before table n
+  pub mails : Sent claims (next_mail claims spans up old) fresh n
+  pub estimates : Filed claims (next_estimate claims spans up old) before table n
 
 -- After t rounds: the last messages stand in `odds` where t is odd and in `evens` where it is even, and the tables
 -- have the bounds. lows₀ and highs₀ are the tables as they were at first.
 pub record Standing (claims : Claims) (spans : Spans) (t : ℕ) (evens odds lows₀ lows highs₀ highs : List ℕ) : Type 0 where
-  pub mails : Sent claims (message (claimants claims) (spanAt spans) t) (cond (odd t) odds evens) (length (claimants claims))
-  pub low : Filed claims (Low (claimants claims) (spanAt spans) t) lows₀ lows (length (claimants claims))
-  pub high : 1 ≤ t → Filed claims (High (claimants claims) (spanAt spans) t) highs₀ highs (length (claimants claims))
+  pub mails : Sent claims (message (claimants claims) (span_at spans) t) (cond (odd t) odds evens) (length (claimants claims))
+  pub low : Filed claims (Low (claimants claims) (span_at spans) t) lows₀ lows (length (claimants claims))
+  pub high : 1 ≤ t → Filed claims (High (claimants claims) (span_at spans) t) highs₀ highs (length (claimants claims))
   pub high_untouched : t ≡ 0 → highs ≡ highs₀

@@ -24,8 +24,8 @@ span_of ends = record { low = ends.low; high = ends.high }
 unfoldable pub spans_in : Spans → List Span
 spans_in spans = map span_of (take spans.count spans.entries)
 
-abbrev pub spanAt : Spans → ℕ → Span
-spanAt spans s = slice_index_or (spans_in spans) s (record { low = 0; high = 0 })
+abbrev pub span_at : Spans → ℕ → Span
+span_at spans s = slice_index_or (spans_in spans) s (record { low = 0; high = 0 })
 
 -- What is told where one more entry is brought to n others: its number, or why it is not taken. The refusals have no
 -- numbers that users know, since the layers above bring only entries that fit.

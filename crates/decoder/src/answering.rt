@@ -1,7 +1,7 @@
 // What a claimant makes of the replies of its slots: its next messages, and its estimate.
 ghost use Rattle.std.specs.Prelude.{◌≡◌, ℕ, ◌+◌, ◌<◌, ◌≤◌, List, map, length};
 ghost use Rattle.rounds.specs.Rounds.{tighter, tightest};
-ghost use Rattle.decoder.specs.Area.{Small, replyTo, but, Written, Answered};
+ghost use Rattle.decoder.specs.Area.{Small, reply_to, but, Written, Answered};
 
 use crate::claims::Claims;
 use crate::limits::PLACES;
@@ -42,7 +42,7 @@ fn collect(
     requires small { Small claims.now msgs.now }
     requires same_length { length replies.old ≡ length row.now }
     ensures { replies.new
-        ≡ map (replyTo claims.now spans.now up msgs.now i) row.now }
+        ≡ map (reply_to claims.now spans.now up msgs.now i) row.now }
 {
     for (place, slot) in row.iter().enumerate() {
         replies[place] = reply_of(claims, spans, up, msgs, *slot, i);

@@ -3,7 +3,7 @@
 #![tactic(auto)]
 
 ghost use Rattle.std.specs.Prelude.{◌≡◌, true, false, length, is_ok};
-ghost use Rattle.decoder.specs.Inputs.{claimants, spanAt};
+ghost use Rattle.decoder.specs.Inputs.{claimants, span_at};
 ghost use Rattle.decoder.specs.Decoding.{told, answer, Decoded};
 
 mod answering;
@@ -35,7 +35,7 @@ fn decode_in(
     requires area_room { length area.old ≡ 7168 }
     requires lows_room { length lows.old ≡ 1024 }
     requires highs_room { length highs.old ≡ 1024 }
-    ensures { Decoded (claimants claims.now) (spanAt spans.now) rounds
+    ensures { Decoded (claimants claims.now) (span_at spans.now) rounds
         area.old area.new lows.old lows.new highs.old highs.new }
 {
     {
@@ -59,7 +59,7 @@ pub fn decode(
     ensures answer { told result ≡ answer rounds (length work.old) }
     ensures refused { is_ok result ≡ false →
         (work.new ≡ work.old) × (lows.new ≡ lows.old) × (highs.new ≡ highs.old) }
-    ensures decoded { is_ok result ≡ true → Decoded (claimants claims.now) (spanAt spans.now) rounds
+    ensures decoded { is_ok result ≡ true → Decoded (claimants claims.now) (span_at spans.now) rounds
         work.old work.new lows.old lows.new highs.old highs.new }
 {
     if rounds > ROUNDS {

@@ -2,7 +2,7 @@
 ghost use Rattle.std.specs.Prelude.{◌≡◌, ◌<◌, length};
 ghost use Rattle.rounds.specs.Rounds.{share, rest};
 ghost use Rattle.decoder.specs.Inputs.{claimants};
-ghost use Rattle.decoder.specs.Area.{mail, Small, replyTo};
+ghost use Rattle.decoder.specs.Area.{mail, Small, reply_to};
 
 use crate::claims::Claims;
 use crate::limits::PLACES;
@@ -51,7 +51,7 @@ pub(crate) fn reply_of(
 ) -> u64
     requires room { length msgs.now ≡ 3072 }
     requires small { Small claims.now msgs.now }
-    ensures { result ≡ replyTo claims.now spans.now up msgs.now i slot }
+    ensures { result ≡ reply_to claims.now spans.now up msgs.now i slot }
 {
     let edge = spans.edge(up, slot);
     let share = edge.saturating_sub(others(claims, msgs, slot, i));

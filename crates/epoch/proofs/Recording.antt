@@ -8,7 +8,7 @@ use Rattle.store.specs.Meaning.{Meaning, Laws, Live, Within, fits, Spreads}
 use Rattle.store.specs.Sums.{reaching}
 use Rattle.store.specs.Totals as totals
 use Rattle.store.proofs.Spreading.{within_fits, fits_within, no_refusal}
-use Rattle.store.proofs.Sums.{length_listed, get_or_listed, listed_ext, listed_getD, length_spread, get_or_spread, reaching_more, get_or_sums}
+use Rattle.store.proofs.Sums.{length_listed, get_or_listed, listed_ext, listed_get_or, length_spread, get_or_spread, reaching_more, get_or_sums}
 use Rattle.wiring.specs.Rising.{is_row}
 use Rattle.book.specs.Book.{Asked, to_enrol, to_record, enrolled, recorded, denied, Flow, Book, row_of, units_of, weight_of}
 use Rattle.book.specs.Book.{rows, units, total, weight, units_at, reached, sums, opened, place, with_flows, grown, answer, after}
@@ -30,7 +30,7 @@ get_or_holdings T B slot h = get_or_listed B.beneath (λ k. get_or T k 0 + reach
 
 -- before any call the slots hold what they held
 pub holdings_first : (T : List ℕ) (N W : ℕ) → length T ≡ N → holdings T (opened N W) ≡ T
-holdings_first T N W long = listed_getD N _ T 0 long (λ k h. omega arith)
+holdings_first T N W long = listed_get_or N _ T 0 long (λ k h. omega arith)
 
 -- the flows weigh no less than their units
 total_light : (flows : List Flow) → ((i : ℕ) → i < length flows → is_row (get_or (map row_of flows) i []) ≡ true)
@@ -206,7 +206,7 @@ module _ {S : Type 0} (m : Meaning S) (laws : Laws m) (first : S) (T : List ℕ)
           let long = length_listed N (λ k. get_or T k 0 + reached B k) in
           let units-long = length-map flows units_of in
           let rows_long = length-map flows row_of in
-          sym (listed_getD N (λ k. get_or T k 0 + reached C k) (totals.spread (holdings T B) row n) 0
+          sym (listed_get_or N (λ k. get_or T k 0 + reached C k) (totals.spread (holdings T B) row n) 0
           (length_spread (holdings T B) row n ∙ long)
           (λ k h.
           let grows : reached C k ≡ reached B k + cond (has k row) n 0 =

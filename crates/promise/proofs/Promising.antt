@@ -6,7 +6,7 @@ use Rattle.store.specs.FlatMeaning.{entry_light}
 use Rattle.store.specs.Meaning.{Meaning, Laws, Fresh, Within}
 use Rattle.store.specs.Sums.{listed}
 use Rattle.store.specs.Totals as totals
-use Rattle.store.proofs.Sums.{listed_ext, listed_getD}
+use Rattle.store.proofs.Sums.{listed_ext, listed_get_or}
 use Rattle.braid.specs.declared.braid.Braid.{Braid}
 use Rattle.braid.specs.BraidMeaning.{braid_meaning}
 use Rattle.braid.specs.BraidMeaning as counters
@@ -106,7 +106,7 @@ module _ (L : ledger.Ledger) (B : Book) (R : ℕ) where
   carried_rows : ledger.rows (carried_on L B R) ≡ ledger.rows L
   carried_rows =
       map_listed ledger.row_of (length L.lines) _
-      ∙ listed_getD (length L.lines) _ (ledger.rows L) [] (length-map L.lines ledger.row_of) (λ k h. refl)
+      ∙ listed_get_or (length L.lines) _ (ledger.rows L) [] (length-map L.lines ledger.row_of) (λ k h. refl)
 
   carried_totals : B.beneath ≡ length L.lines → ledger.totals (carried_on L B R) ≡ holdings (ledger.totals L) B
   carried_totals wide =

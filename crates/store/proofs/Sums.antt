@@ -28,9 +28,9 @@ listed_ext (suc n) f g e =
     ∙ ap (λ xs. g 0 ∷ xs) (listed_ext n (λ k. f (suc k)) (λ k. g (suc k)) (λ k h. e (suc k) (omega arith)))
 
 -- a list is listed by its entries
-pub listed_getD : {X : Type 0} (n : ℕ) (f : ℕ → X) (xs : List X) (d : X) → length xs ≡ n
+pub listed_get_or : {X : Type 0} (n : ℕ) (f : ℕ → X) (xs : List X) (d : X) → length xs ≡ n
     → ((k : ℕ) → k < n → f k ≡ get_or xs k d) → listed n f ≡ xs
-listed_getD n f xs d long e = ext_get_or d (listed n f) xs (length_listed n f ∙ sym long)
+listed_get_or n f xs d long e = ext_get_or d (listed n f) xs (length_listed n f ∙ sym long)
     (λ k h. let in-n : k < n = omega (arith, length_listed n f) in get_or_listed n f k d in-n ∙ e k in-n)
 
 pub sum_ext : (n : ℕ) (f g : ℕ → ℕ) → ((k : ℕ) → k < n → f k ≡ g k) → sum n f ≡ sum n g
@@ -140,7 +140,7 @@ pub sums_more : (N : ℕ) (rows : List (List ℕ)) (a b : ℕ → ℕ) (i q : �
 sums_more N rows a b i q h distinct within here there =
     let row = get_or rows i [] in
     let long = length_sums N rows a in
-    listed_getD N (reaching rows b) (spread (slot_sums N rows a) row q) 0 (length_spread (slot_sums N rows a) row q ∙ long)
+    listed_get_or N (reaching rows b) (spread (slot_sums N rows a) row q) 0 (length_spread (slot_sums N rows a) row q ∙ long)
     (λ j l.
     let at = get_or_spread (slot_sums N rows a) row q j distinct (omega arith) in
     omega (arith, at, get_or_sums N rows a j l, reaching_more rows a b i q h here there j))
@@ -151,7 +151,7 @@ reaching_none rows a e j = sum_none (length rows) _ (λ i h. cond_zero (has j (g
 -- where nothing is brought, nothing reaches a slot
 module _ (N : ℕ) (rows : List (List ℕ)) (a : ℕ → ℕ) (none : (i : ℕ) → i < length rows → a i ≡ 0) where
   pub sums_none : slot_sums N rows a ≡ replicate N 0
-  sums_none = listed_getD N (reaching rows a) (replicate N 0) 0 (length-replicate N 0)
+  sums_none = listed_get_or N (reaching rows a) (replicate N 0) 0 (length-replicate N 0)
       (λ j h. reaching_none rows a none j ∙ sym (get_or-replicate N j 0 0 h))
 
   pub get_or_sums_none : (j : ℕ) → get_or (slot_sums N rows a) j 0 ≡ 0
@@ -197,7 +197,7 @@ total_row N row n distinct within =
     let none = listed N (λ j. 0) in
     let long : length none ≡ N = length_listed N (λ j. 0) in
     let same : listed N (λ j. cond (has j row) n 0) ≡ spread none row n =
-    listed_getD N (λ j. cond (has j row) n 0) (spread none row n) 0 (length_spread none row n ∙ long)
+    listed_get_or N (λ j. cond (has j row) n 0) (spread none row n) 0 (length_spread none row n ∙ long)
     (λ j h. omega (arith, get_or_spread none row n j distinct (omega arith), get_or_listed {X = ℕ} N (λ j. 0) j 0 h)) in
     omega (arith, ap total same, total_spread none row n (within_same N (length none) row (sym long) within), total_zeros N)
 

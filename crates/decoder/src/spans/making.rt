@@ -1,7 +1,7 @@
 // How the table of spans is filled, and how it is read.
 ghost use Rattle.std.specs.Prelude.{◌≡◌, []};
 ghost use Rattle.rounds.specs.Rounds.{edge};
-ghost use Rattle.decoder.specs.Inputs.{spans_in, spanAt, span_told, grown};
+ghost use Rattle.decoder.specs.Inputs.{spans_in, span_at, span_told, grown};
 
 use crate::limits::{CEILING, ENTRIES};
 use crate::spans::{Ends, Spans};
@@ -37,7 +37,7 @@ impl Spans {
 
     // Where a round starts from at a slot: the high of its span, or the low.
     pub(crate) fn edge(&self, up: bool, slot: u16) -> u64
-        ensures { result ≡ edge up (spanAt self.now slot) }
+        ensures { result ≡ edge up (span_at self.now slot) }
     {
         let place = slot as usize;
         if place >= self.count {

@@ -1,6 +1,6 @@
 use Rattle.std.proofs.Common.{◌≡◌, length, refl, ap, ◌∙◌, arith}
 use Rattle.decoder.specs.Inputs.{claimants}
-use Rattle.decoder.specs.Area.{restTo}
+use Rattle.decoder.specs.Area.{rest_to}
 use Rattle.decoder.proofs.Sending.{share_small, rest_skip, rest_take}
 use Rattle.decoder.proofs.replying.others.Goals as goal
 use Rattle.decoder.proofs.replying.others.Goals.{then-j-i, else-j-i}
@@ -35,4 +35,4 @@ pub returns : goal.returns
 returns c =
     let claims = c.args.claims.now in
     let all : c.loop-j.j ≡ length (claimants claims) = omega (arith, c.count-j-end.ensures.value) in
-    c.loop-j.invariant.0 ∙ ap (restTo claims c.args.msgs.now c.args.slot c.args.i) all
+    c.loop-j.invariant.0 ∙ ap (rest_to claims c.args.msgs.now c.args.slot c.args.i) all

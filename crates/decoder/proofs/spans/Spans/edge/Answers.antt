@@ -1,6 +1,6 @@
 use Rattle.std.proofs.Common.{◌≡◌, Bool, true, false, sym, refl, ap, ◌∙◌}
 use Rattle.rounds.specs.Rounds.{edge}
-use Rattle.decoder.specs.Inputs.{spanAt}
+use Rattle.decoder.specs.Inputs.{span_at}
 use Rattle.decoder.proofs.Entries.{spans_at, spans_past}
 use Rattle.decoder.proofs.spans.Spans.edge.Goals as goal
 
@@ -16,9 +16,9 @@ returns-then-place-self c =
 pub returns-then-up : goal.returns-then-up
 returns-then-up c =
     let at = spans_at c.args.self.now c.args.slot c.index-self-place.result c.if-place-self.false in
-    sym (ap (λ up. edge up (spanAt c.args.self.now c.args.slot)) c.if-up.true ∙ ap (edge true) at)
+    sym (ap (λ up. edge up (span_at c.args.self.now c.args.slot)) c.if-up.true ∙ ap (edge true) at)
 
 pub returns-else-up : goal.returns-else-up
 returns-else-up c =
     let at = spans_at c.args.self.now c.args.slot c.index-self-place.result c.if-place-self.false in
-    sym (ap (λ up. edge up (spanAt c.args.self.now c.args.slot)) c.if-up.false ∙ ap (edge false) at)
+    sym (ap (λ up. edge up (span_at c.args.self.now c.args.slot)) c.if-up.false ∙ ap (edge false) at)
