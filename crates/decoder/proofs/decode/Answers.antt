@@ -5,7 +5,7 @@ use Rattle.decoder.proofs.decode.Goals as goal
 
 pub returns : goal.returns
 returns c =
-    let len : length c.decode-in.new.area ≡ 7168 = omega arith in
+    let len : length c.decode_in.new.area ≡ 7168 = omega arith in
     record {
       answer = rw (
         le-ltb 2048 c.args.rounds c.if-rounds-gt-ROUNDS.false,
@@ -13,11 +13,11 @@ returns c =
       );
       refused = λ refusal. absurd (true≢false refusal);
       decoded = λ _. record {
-        low = c.decode-in.ensures.low;
-        high = c.decode-in.ensures.high;
-        high_untouched = c.decode-in.ensures.high_untouched;
+        low = c.decode_in.ensures.low;
+        high = c.decode_in.ensures.high;
+        high_untouched = c.decode_in.ensures.high_untouched;
         area_clear = λ k lt.
-            get_or_append_left c.decode-in.new.area _ 0 k (omega arith) ∙ c.decode-in.ensures.area_clear k lt;
-        area_kept = drop_at c.decode-in.new.area _ 7168 len;
+            get_or_append_left c.decode_in.new.area _ 0 k (omega arith) ∙ c.decode_in.ensures.area_clear k lt;
+        area_kept = drop_at c.decode_in.new.area _ 7168 len;
       };
     }

@@ -23,23 +23,23 @@ taken_at g c live =
     let slot = c.loop-slot.slot in
     let known = spans_in c.loop-slot.spans in
     let inside : slot < m.slots b = omega (arith, c.slots-slot-end.ensures) in
-    let span : c.in-ok-span.span ≡ m.spans b (m.rounds b) slot = same_ok _ _ ((c.in-ok-span.ensures live).span inside) in
+    let span : c.in_ok-span.span ≡ m.spans b (m.rounds b) slot = same_ok _ _ ((c.in_ok-span.ensures live).span inside) in
     let room : length known < 1024 =
     omega (arith, ap length (c.loop-slot.invariant live), length_listed slot (m.spans b (m.rounds b)), laws.few b live.sound) in
-    let low : c.in-ok-span.span.low ≤ 2 ^ 40 =
+    let low : c.in_ok-span.span.low ≤ 2 ^ 40 =
     omega (arith, ap (λ (s : Span). s.low) span, laws.low_light b live.sound (m.rounds b) slot inside, laws.light b live.sound) in
-    let high : c.in-ok-span.span.high ≤ 2 ^ 40 =
+    let high : c.in_ok-span.span.high ≤ 2 ^ 40 =
     omega (arith, ap (λ (s : Span). s.high) span, laws.high_light b live.sound (m.rounds b) slot inside, laws.light b live.sound) in
     let told : c.push.result ≡ Ok (length known) =
     c.push.ensures.answer ∙ told_taken (length known) _ true room (and_from _ _ (le-leb _ (2 ^ 40) low) (le-leb _ (2 ^ 40) high)) refl in (
       told,
-      c.push.ensures.grows ∙ ap (λ r. grown r known c.in-ok-span.span) told ∙ ap (λ (s : Span). known ++ s ∷ []) span,
+      c.push.ensures.grows ∙ ap (λ r. grown r known c.in_ok-span.span) told ∙ ap (λ (s : Span). known ++ s ∷ []) span,
     )
 
-pub returns-in-err-taken : goal.returns-in-err-taken
-returns-in-err-taken g c = λ live.
-    let at = taken_at g (goal.at.returns-in-err-taken g c).After-push live in
-    absurd (no_refusal _ _ (sym c.in-err-taken.was ∙ c.taken.ensures _ at.0))
+pub returns-in_err-taken : goal.returns-in_err-taken
+returns-in_err-taken g c = λ live.
+    let at = taken_at g (goal.at.returns-in_err-taken g c).After-push live in
+    absurd (no_refusal _ _ (sym c.in_err-taken.was ∙ c.taken.ensures _ at.0))
 
 pub loop-slot-preserved : goal.loop-slot-preserved
 loop-slot-preserved g c = λ live.

@@ -7,8 +7,8 @@ pub loop-place-preserved : goal.loop-place-preserved
 loop-place-preserved c =
     let f : ℕ → ℕ = reply_to c.args.claims.now c.args.spans.now c.args.up c.args.msgs.now c.args.i in
     let l = c.loop-place in
-    collect_more f c.args.row.now l.replies l.place l.invariant c.reply-of.result
-    c.loop-place-test.true (omega arith) c.reply-of.ensures
+    collect_more f c.args.row.now l.replies l.place l.invariant c.reply_of.result
+    c.loop-place-test.true (omega arith) c.reply_of.ensures
 
 pub returns : goal.returns
 returns c =

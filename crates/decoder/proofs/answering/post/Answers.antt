@@ -10,8 +10,8 @@ loop-place-init c = written_none _ _ _
 pub loop-place-preserved : goal.loop-place-preserved
 loop-place-preserved c =
     let room : c.args.base + c.loop-place.place < length c.loop-place.msgs = omega arith in
-    written_more _ c.loop-place.msgs c.args.base c.loop-place.place _ c.tightest-but.result c.loop-place.invariant room
-    c.tightest-but.ensures
+    written_more _ c.loop-place.msgs c.args.base c.loop-place.place _ c.tightest_but.result c.loop-place.invariant room
+    c.tightest_but.ensures
 
 pub returns : goal.returns
 returns c =

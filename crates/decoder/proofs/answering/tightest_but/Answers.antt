@@ -15,7 +15,7 @@ loop-place-preserved c =
     let lt = c.loop-place-test.true in
     elim c.if-place-skip.branch [
       | then-place-skip w ↦
-          w.best-is ∙ ap Some (w.tighter-of.ensures ∙ ap (λ b. tighter up b x) w.unwrap-or.ensures)
+          w.best-is ∙ ap Some (w.tighter_of.ensures ∙ ap (λ b. tighter up b x) w.unwrap_or.ensures)
           ∙ ap (λ (b : Option ℕ). Some (tighter up (unwrap_or b x) x)) c.loop-place.invariant
           ∙ sym (gather_more up replies c.args.skip p lt w.if-place-skip.true)
       | else-place-skip w ↦ w.best-is ∙ c.loop-place.invariant ∙ sym (gather_skip up replies c.args.skip p lt w.if-place-skip.false)
@@ -26,5 +26,5 @@ returns c =
     let up = c.args.up in
     let skip = c.args.skip in
     let all = take_all c.loop-place.place c.args.replies.now c.loop-place-test.false in
-    c.unwrap-or-2.ensures ∙ ap (λ (b : Option ℕ). unwrap_or b 0) (c.loop-place.invariant ∙ ap (λ l. known up (but skip l)) all)
+    c.unwrap_or-2.ensures ∙ ap (λ (b : Option ℕ). unwrap_or b 0) (c.loop-place.invariant ∙ ap (λ l. known up (but skip l)) all)
     ∙ known_all up (but skip c.args.replies.now)

@@ -8,8 +8,8 @@ use Rattle.decoder.proofs.replying.others.Goals.{then-j-i, else-j-i}
 pub loop-j-init : goal.loop-j-init
 loop-j-init c = (refl, omega arith)
 
-pub overflow-add-total : goal.overflow-add-total
-overflow-add-total c =
+pub overflow_add-total : goal.overflow_add-total
+overflow_add-total c =
     let small = share_small c.args.claims.now c.args.msgs.now c.args.slot c.loop-j.j c.requires.small in
     omega (arith, c.sent-total.ensures, small, c.loop-j.invariant.1)
 

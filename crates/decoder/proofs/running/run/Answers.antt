@@ -4,10 +4,10 @@ use Rattle.decoder.proofs.running.run.Goals as goal
 
 pub repeat-requires : goal.repeat-requires
 repeat-requires c = record {
-  evens-room = omega arith;
-  odds-room = omega arith;
-  lows-room = omega arith;
-  highs-room = omega arith;
+  evens_room = omega arith;
+  odds_room = omega arith;
+  lows_room = omega arith;
+  highs_room = omega arith;
   begun = begun_stands c.args.claims.now c.args.spans.now
       c.start.new.msgs c.args.lows.now c.start.new.lows c.start.ensures c.args.odds.now c.args.highs.now;
 }

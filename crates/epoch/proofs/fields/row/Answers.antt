@@ -6,6 +6,6 @@ use Rattle.epoch.proofs.fields.row.Goals as goal
 pub returns-in-len6 : goal.returns-in-len6
 returns-in-len6 c = λ six.
     c.new.ensures
-    ∙ (λ i. row_from (c.from-be-bytes.ensures i
-    ∷ (c.from-be-bytes-in-len6.ensures i ∷ (c.from-be-bytes-in-len6-2.ensures i ∷ []))))
+    ∙ (λ i. row_from (c.from_be_bytes.ensures i
+    ∷ (c.from_be_bytes-in-len6.ensures i ∷ (c.from_be_bytes-in-len6-2.ensures i ∷ []))))
     ∙ ap row_from (sym (words_six c.args.bytes.now six))

@@ -8,18 +8,18 @@ use Rattle.epoch.proofs.Rosters.{many}
 use Rattle.epoch.proofs.Sealing.{claim_taken, claims_more}
 use Rattle.epoch.proofs.sealed.claims_of.Goals as goal
 
-pub returns-in-err-push-claimant : goal.returns-in-err-push-claimant
-returns-in-err-push-claimant c = λ B able.
+pub returns-in_err-push_claimant : goal.returns-in_err-push_claimant
+returns-in_err-push_claimant c = λ B able.
     let r = c.args.roster.now in
     let here : c.loop-i.i < length B.flows = omega (arith, many r B.flows able.flows) in
     let taken = claim_taken r B able c.loop-i.i here _ c.row.ensures _ (c.loop-i.invariant B able) in
-    absurd (no_refusal _ _ (c.in-err-push-claimant.ensures.said ∙ taken))
+    absurd (no_refusal _ _ (c.in_err-push_claimant.ensures.said ∙ taken))
 
 pub loop-i-preserved : goal.loop-i-preserved
 loop-i-preserved c = λ B able.
     let r = c.args.roster.now in
     let here : c.loop-i.i < length B.flows = omega (arith, many r B.flows able.flows) in
-    c.push-claimant.ensures.grows ∙ claims_more r B able c.loop-i.i here _ c.row.ensures _ (c.loop-i.invariant B able)
+    c.push_claimant.ensures.grows ∙ claims_more r B able c.loop-i.i here _ c.row.ensures _ (c.loop-i.invariant B able)
 
 pub returns : goal.returns
 returns c = λ B able.

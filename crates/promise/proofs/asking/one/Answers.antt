@@ -8,12 +8,12 @@ returns-in-Settle g c =
     let m = g.S.Store.meaning in
     let work = c.args.work.now in
     let n = c.min-many.result - 0 in
-    let left = c.settle-one.new.work in
+    let left = c.settle_one.new.work in
     let front : length (take n work) ≡ min (length work) c.in-Settle.room = omega (arith, length-take n work, c.min-many.ensures) in
     let inside : n ≤ length work = omega (arith, c.min-many.ensures) in
-    let long : length left ≡ n = omega (arith, c.settle-one.auto.work, length-take n work) in
+    let long : length left ≡ n = omega (arith, c.settle_one.auto.work, length-take n work) in
     same_question m _ _ _ _ _ _ _ (ap (to_settle c.in-Settle.rounds) front ∙ sym (ap (asked (length work)) c.in-Settle.is))
-    (replied_in_front m c.in-Settle.rounds _ _ _ n work left inside long c.settle-one.ensures)
+    (replied_in_front m c.in-Settle.rounds _ _ _ n work left inside long c.settle_one.ensures)
 
 pub returns-in-Ok : goal.returns-in-Ok
 returns-in-Ok g c =

@@ -4,7 +4,7 @@ use Rattle.promise.proofs.Driving.{same_call}
 use Rattle.promise.proofs.recording.one.Goals as goal
 
 pub returns-in-Enrol : goal.returns-in-Enrol
-returns-in-Enrol g c = same_call g.S.Store.meaning _ _ _ _ _ (sym (ap asked c.in-Enrol.is)) c.enrol-one.ensures
+returns-in-Enrol g c = same_call g.S.Store.meaning _ _ _ _ _ (sym (ap asked c.in-Enrol.is)) c.enrol_one.ensures
 
 pub returns-in-Ok : goal.returns-in-Ok
 returns-in-Ok g c = same_call g.S.Store.meaning _ _ _ _ _ (sym (ap asked c.in-Record.is)) c.in-Ok.ensures

@@ -28,11 +28,11 @@ returns-in-Some g c =
         bits_of c.in-Some.depth,
         ap (option_map bits_of) c.in-Some.is,
         braided m g.S.Store.laws (m.slots c.args.store) (bits_of c.in-Some.depth) _ _ _ _ _ _ _ _ _ _ _
-            (same_made m _ _ _ _ c.args.wires.now c.args.wired.now c.run-braid.new.answers _ c.args.work.now c.run-braid.new.work c.run-braid.ensures.count (c.run-braid.ensures.promise fresh))
-            (same_keeps (braid_meaning m) c.run-braid.result.0 _ _ _ _ c.args.questions.now c.args.replies.now _ c.run-braid.new.work c.keep-in-Some.new.work _ c.run-braid.auto.work c.keep-in-Some.ensures.promise),
+            (same_made m _ _ _ _ c.args.wires.now c.args.wired.now c.run_braid.new.answers _ c.args.work.now c.run_braid.new.work c.run_braid.ensures.count (c.run_braid.ensures.promise fresh))
+            (same_keeps (braid_meaning m) c.run_braid.result.0 _ _ _ _ c.args.questions.now c.args.replies.now _ c.run_braid.new.work c.keep-in-Some.new.work _ c.run_braid.auto.work c.keep-in-Some.ensures.promise),
       );
       unwired = λ none. absurd (some_none _ (sym (ap (option_map bits_of) c.in-Some.is) ∙ none));
-      wired = subst (λ (n : ℕ). drop n c.run-braid.new.answers ≡ drop n c.args.wired.now) c.run-braid.ensures.count c.run-braid.ensures.kept;
+      wired = subst (λ (n : ℕ). drop n c.run_braid.new.answers ≡ drop n c.args.wired.now) c.run_braid.ensures.count c.run_braid.ensures.kept;
       answers = c.keep-in-Some.ensures.answers;
       replies = c.keep-in-Some.ensures.replies;
     }

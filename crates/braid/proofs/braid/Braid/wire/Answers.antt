@@ -14,7 +14,7 @@ returns g c =
     let row = slots_of c.args.row in
     let fits : Within (m.slots s.below) row =
     subst (λ N. Within N row) c.slots-2.ensures (subst (Within c.slots-2.result) c.slots.ensures c.if-not-within.ensures) in
-    let is : c.wire.new.self ≡ wired s.layer row = c.wire.ensures.wired ∙ ap (wired s.layer) c.to-array.ensures in
+    let is : c.wire.new.self ≡ wired s.layer row = c.wire.ensures.wired ∙ ap (wired s.layer) c.to_array.ensures in
     record {
       weighted = λ some. elim some [ inl own ↦ absurd (omega arith) | inr below ↦ absurd (omega (arith, c.weight.ensures)) ];
       full = λ own below full. absurd (omega arith);

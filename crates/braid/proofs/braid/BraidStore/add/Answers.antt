@@ -16,18 +16,18 @@ not_declined g c live =
     let s = c.args.self.now in
     let at = c.in-Some.ensures.some in
     let said = handed g.S.Store.meaning g.S.Store.laws s c.in-Some.i c.args.n live.sound (omega arith) (omega (arith, live.sound.light)) live _ _ _ _
-    c.row.ensures (c.carry-carry.ensures (live.sound.shallow, live.sound.deep)) c.in-err-add-to-row.ensures in
+    c.row.ensures (c.carry-carry.ensures (live.sound.shallow, live.sound.deep)) c.in_err-add_to_row.ensures in
     no_refusal _ _ said.answers
 
-pub returns-in-err-add-to-row : goal.returns-in-err-add-to-row
-returns-in-err-add-to-row g c = record {
+pub returns-in_err-add_to_row : goal.returns-in_err-add_to_row
+returns-in_err-add_to_row g c = record {
   adds = λ live. record {
     no_slot = λ h. absurd (omega (arith, c.in-Some.ensures.some.2));
     ceiling = λ h k. absurd (omega arith);
-    added = λ h k. absurd (not_declined g (goal.at.returns-in-err-add-to-row g c).After-from-residual live);
+    added = λ h k. absurd (not_declined g (goal.at.returns-in_err-add_to_row g c).After-from-residual live);
   };
   wiring = (refl, refl, refl);
-  beneath = λ live. absurd (not_declined g (goal.at.returns-in-err-add-to-row g c).After-from-residual live);
+  beneath = λ live. absurd (not_declined g (goal.at.returns-in_err-add_to_row g c).After-from-residual live);
 }
 
 -- the layer is as it was when the units are counted, whatever was carried
@@ -58,7 +58,7 @@ module _ (g : given.Over) (c : After-count-more g) (live : Live (braid_meaning g
         | then-carry-ge1+in-ok-add-to-row w ↦
             subst (λ (b : Braid g.row.S.Denot). Carried m laws s i n live.sound inside fits b.below) (sym w.self-is)
             (some_carried m laws s i n live.sound inside fits _ _
-            (handed m laws s i n live.sound inside fits live _ _ _ _ w.row.ensures (c.carry-carry.ensures deep) w.add-to-row.ensures))
+            (handed m laws s i n live.sound inside fits live _ _ _ _ w.row.ensures (c.carry-carry.ensures deep) w.add_to_row.ensures))
         | else-carry-ge1 w ↦
             subst (λ (b : Braid g.row.S.Denot). Carried m laws s i n live.sound inside fits b.below) (sym w.self-is)
             (none_carried m laws s i n live.sound inside fits (subst (λ q. q < 1) (c.carry-carry.ensures deep) w.if-carry-ge1.false))
@@ -82,7 +82,7 @@ module _ (g : given.Over) (c : After-count-more g) (live : Live (braid_meaning g
 pub returns : goal.returns
 returns g c =
     let at = c.in-Some.ensures.some in
-    let here = (goal.at.returns g c).After-count-more in
+    let here = (goal.at.returns g c).After-count_more in
     record {
       adds = λ live. record {
         no_slot = λ h. absurd (omega arith);

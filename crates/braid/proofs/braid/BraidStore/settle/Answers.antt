@@ -9,43 +9,43 @@ use Rattle.braid.proofs.braid.BraidStore.settle.Given as given
 use Rattle.braid.proofs.braid.BraidStore.settle.Goals as goal
 use Rattle.braid.proofs.braid.BraidStore.settle.Goals.{In-ok-settle}
 
-pub returns-in-err-claims : goal.returns-in-err-claims
-returns-in-err-claims g c = record {
-  settles = λ live. absurd (c.in-err-claims.ensures (claimable g.S.Store.meaning g.S.Store.laws c.args.self.now live));
+pub returns-in_err-claims : goal.returns-in_err-claims
+returns-in_err-claims g c = record {
+  settles = λ live. absurd (c.in_err-claims.ensures (claimable g.S.Store.meaning g.S.Store.laws c.args.self.now live));
   wiring = (refl, refl, refl);
-  beneath = λ live. absurd (c.in-err-claims.ensures (claimable g.S.Store.meaning g.S.Store.laws c.args.self.now live));
+  beneath = λ live. absurd (c.in_err-claims.ensures (claimable g.S.Store.meaning g.S.Store.laws c.args.self.now live));
 }
 
-pub returns-in-err-spans : goal.returns-in-err-spans
-returns-in-err-spans g c =
+pub returns-in_err-spans : goal.returns-in_err-spans
+returns-in_err-spans g c =
     let m = g.S.Store.meaning in
     record {
       settles = λ live.
-          let said = c.in-ok-settle.ensures (live_below m g.S.Store.laws c.args.self.now live) in
+          let said = c.in_ok-settle.ensures (live_below m g.S.Store.laws c.args.self.now live) in
           record {
             many = λ h. absurd (not_many m _ _ _ _ _ _ said h);
             short = λ h k. absurd (not_short m _ _ _ _ _ _ said h k);
-            settled = λ h k. absurd (c.in-err-spans.ensures (live_after m g.S.Store.laws c.args.self.now live _ _ _ _ _ (said.settled h k)));
+            settled = λ h k. absurd (c.in_err-spans.ensures (live_after m g.S.Store.laws c.args.self.now live _ _ _ _ _ (said.settled h k)));
           };
       wiring = (refl, refl, refl);
-      beneath = λ live. (settled_since m _ _ _ _ _ _ (c.in-ok-settle.ensures (live_below m g.S.Store.laws c.args.self.now live))).slots;
+      beneath = λ live. (settled_since m _ _ _ _ _ _ (c.in_ok-settle.ensures (live_below m g.S.Store.laws c.args.self.now live))).slots;
     }
 
-pub returns-in-err-decode : goal.returns-in-err-decode
-returns-in-err-decode g c =
+pub returns-in_err-decode : goal.returns-in_err-decode
+returns-in_err-decode g c =
     let m = g.S.Store.meaning in
     record {
       settles = λ live.
-          let said = c.in-ok-settle.ensures (live_below m g.S.Store.laws c.args.self.now live) in
+          let said = c.in_ok-settle.ensures (live_below m g.S.Store.laws c.args.self.now live) in
           record {
             many = λ h. absurd (not_many m _ _ _ _ _ _ said h);
             short = λ h k. absurd (not_short m _ _ _ _ _ _ said h k);
             settled = λ h k.
                 let room : 7168 ≤ length c.settle.new.work = omega (arith, c.settle.auto.work) in
-                absurd (no_refusal _ _ (c.in-err-decode.ensures.answer ∙ accepted c.args.count (length c.settle.new.work) h room));
+                absurd (no_refusal _ _ (c.in_err-decode.ensures.answer ∙ accepted c.args.count (length c.settle.new.work) h room));
           };
       wiring = (refl, refl, refl);
-      beneath = λ live. (settled_since m _ _ _ _ _ _ (c.in-ok-settle.ensures (live_below m g.S.Store.laws c.args.self.now live))).slots;
+      beneath = λ live. (settled_since m _ _ _ _ _ _ (c.in_ok-settle.ensures (live_below m g.S.Store.laws c.args.self.now live))).slots;
     }
 
 pub returns : goal.returns
@@ -53,17 +53,17 @@ returns g c =
     let m = g.S.Store.meaning in
     record {
       settles = λ live.
-          let said = c.in-ok-settle.ensures (live_below m g.S.Store.laws c.args.self.now live) in
+          let said = c.in_ok-settle.ensures (live_below m g.S.Store.laws c.args.self.now live) in
           record {
             many = λ h. absurd (not_many m _ _ _ _ _ _ said h);
             short = λ h k. absurd (not_short m _ _ _ _ _ _ said h k);
             settled = λ h k.
                 let done = said.settled h k in
                 settled_whole m g.S.Store.laws c.args.self.now live _ _ _ _ _ done _ _ _ _ _
-                (c.in-ok-claims.ensures (claimable m g.S.Store.laws c.args.self.now live))
-                (c.in-ok-spans.ensures (live_after m g.S.Store.laws c.args.self.now live _ _ _ _ _ done))
-                (c.in-ok-decode.ensures.decoded refl);
+                (c.in_ok-claims.ensures (claimable m g.S.Store.laws c.args.self.now live))
+                (c.in_ok-spans.ensures (live_after m g.S.Store.laws c.args.self.now live _ _ _ _ _ done))
+                (c.in_ok-decode.ensures.decoded refl);
           };
       wiring = (refl, refl, refl);
-      beneath = λ live. (settled_since m _ _ _ _ _ _ (c.in-ok-settle.ensures (live_below m g.S.Store.laws c.args.self.now live))).slots;
+      beneath = λ live. (settled_since m _ _ _ _ _ _ (c.in_ok-settle.ensures (live_below m g.S.Store.laws c.args.self.now live))).slots;
     }

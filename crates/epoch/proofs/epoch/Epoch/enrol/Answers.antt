@@ -15,11 +15,11 @@ returns-then-from-ge-FLOWS g c = λ first T B stands.
     full g.S.Store.meaning g.S.Store.laws first T B _ stands c.args.id (slots_of c.args.row) c.args.row.rising
     c.if-self-gt0.false (omega (arith, c.from.ensures))
 
-pub returns-then-is-some : goal.returns-then-is-some
-returns-then-is-some g c = λ first T B stands.
+pub returns-then-is_some : goal.returns-then-is_some
+returns-then-is_some g c = λ first T B stands.
     known g.S.Store.meaning g.S.Store.laws first T B _ stands c.args.id (slots_of c.args.row) c.args.row.rising
     c.if-self-gt0.false (omega (arith, c.from.ensures)) c.find.result (c.find.ensures.found stands.flows.room)
-    (sym c.if-is-some.ensures)
+    (sym c.if-is_some.ensures)
 
 pub returns-then-not-within : goal.returns-then-not-within
 returns-then-not-within g c = λ first T B stands.
@@ -30,7 +30,7 @@ returns-then-not-within g c = λ first T B stands.
     (subst (Within (m.slots c.args.self.now.store)) (sym c.slots.ensures) inside)) in
     outside m g.S.Store.laws first T B _ stands c.args.id (slots_of c.args.row) c.args.row.rising
     c.if-self-gt0.false (omega (arith, c.from.ensures)) c.find.result (c.find.ensures.found stands.flows.room)
-    (sym c.is-some.ensures ∙ c.if-is-some.false) out
+    (sym c.is_some.ensures ∙ c.if-is_some.false) out
 
 pub returns : goal.returns
 returns g c = λ first T B stands.
@@ -40,5 +40,5 @@ returns g c = λ first T B stands.
     (subst (Within c.slots-2.result) c.slots.ensures c.if-not-within.ensures) in
     taken m g.S.Store.laws first T B _ stands c.args.id (slots_of c.args.row) c.args.row.rising
     c.if-self-gt0.false (omega (arith, c.from.ensures)) c.find.result (c.find.ensures.found stands.flows.room)
-    (sym c.is-some.ensures ∙ c.if-is-some.false) inside _ _
-    (c.push.ensures.pushed ∙ ap (pushed c.args.self.now.roster c.args.id) c.to-array.ensures) c.push.ensures.number
+    (sym c.is_some.ensures ∙ c.if-is_some.false) inside _ _
+    (c.push.ensures.pushed ∙ ap (pushed c.args.self.now.roster c.args.id) c.to_array.ensures) c.push.ensures.number

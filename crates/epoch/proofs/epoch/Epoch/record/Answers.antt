@@ -8,28 +8,28 @@ use Rattle.epoch.specs.Standing.{Answered}
 use Rattle.epoch.proofs.Recording.{live, unknown, row_is, over, added}
 use Rattle.epoch.proofs.epoch.Epoch.record.Goals as goal
 
-pub returns-in-default : goal.returns-in-default
-returns-in-default g c = λ first T B stands.
+pub returns-in_default : goal.returns-in_default
+returns-in_default g c = λ first T B stands.
     unknown g.S.Store.meaning g.S.Store.laws first T B _ stands c.args.id c.args.units
-    (c.in-default.ensures.found stands.flows.room)
+    (c.in_default.ensures.found stands.flows.room)
 
-pub returns-in-err-add-to-row : goal.returns-in-err-add-to-row
-returns-in-err-add-to-row g c = λ first T B stands.
+pub returns-in_err-add_to_row : goal.returns-in_err-add_to_row
+returns-in_err-add_to_row g c = λ first T B stands.
     let m = g.S.Store.meaning in
     let laws = g.S.Store.laws in
     let e = c.args.self.now in
     let i = c.in-Some.flow in
     let n = c.args.units in
     let at = c.in-Some.ensures.found stands.flows.room in
-    let said = c.in-err-add-to-row.ensures (live m laws first T B e stands) in
+    let said = c.in_err-add_to_row.ensures (live m laws first T B e stands) in
     let is : c.row.result.now ≡ _ = c.row.ensures ∙ row_is m laws first T B e stands c.args.id n i at in
-    let why = store-number c.in-err-add-to-row.field-0.0 in
-    let done = over m laws first T B e stands c.args.id n i at c.add-to-row.new.store why
-    (subst (λ row. Spreads m e.store c.add-to-row.new.store row n (Err why)) is said) in
+    let why = store-number c.in_err-add_to_row.field-0.0 in
+    let done = over m laws first T B e stands c.args.id n i at c.add_to_row.new.store why
+    (subst (λ row. Spreads m e.store c.add_to_row.new.store row n (Err why)) is said) in
     let out = err_from_is_err_and c.from-residual.result c.from-residual.ensures.1 in
     let same : told_record c.from-residual.result ≡ denied why = ap told_record out.1 ∙ ap denied out.2 in
     subst (Answered m first T B (to_record c.args.id n) e
-    (record { store = c.add-to-row.new.store; roster = e.roster; total = e.total; burden = e.burden })) (sym same) done
+    (record { store = c.add_to_row.new.store; roster = e.roster; total = e.total; burden = e.burden })) (sym same) done
 
 pub returns : goal.returns
 returns g c = λ first T B stands.
@@ -39,8 +39,8 @@ returns g c = λ first T B stands.
     let i = c.in-Some.flow in
     let n = c.args.units in
     let at = c.in-Some.ensures.found stands.flows.room in
-    let said = c.in-ok-add-to-row.ensures (live m laws first T B e stands) in
+    let said = c.in_ok-add_to_row.ensures (live m laws first T B e stands) in
     let is : c.row.result.now ≡ _ = c.row.ensures ∙ row_is m laws first T B e stands c.args.id n i at in
-    added m laws first T B e stands c.args.id n i at c.add-to-row.new.store c.in-ok-add-to-row.field-0
-    (subst (λ row. Spreads m e.store c.add-to-row.new.store row n (Ok c.in-ok-add-to-row.field-0)) is said)
-    c.saturating-add-self.result (λ fits. omega (arith, c.from.ensures))
+    added m laws first T B e stands c.args.id n i at c.add_to_row.new.store c.in_ok-add_to_row.field-0
+    (subst (λ row. Spreads m e.store c.add_to_row.new.store row n (Ok c.in_ok-add_to_row.field-0)) is said)
+    c.saturating_add-self.result (λ fits. omega (arith, c.from.ensures))

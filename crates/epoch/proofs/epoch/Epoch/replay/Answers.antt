@@ -28,7 +28,7 @@ module _ (g : given.Over) (c : Else-not-more g) (R : Reading) (lays : Lays R c.a
   reads : Reads R c.loop-more.taken c.loop-more.reader
   reads = c.loop-more.invariant.0 R lays
 
-  now_reads : Reads R (c.loop-more.taken + 1) c.take-next.new.reader
+  now_reads : Reads R (c.loop-more.taken + 1) c.take_next.new.reader
   now_reads = (c.in-Ok.ensures.reads R c.loop-more.taken reads).0
 
   told_more : told_step (Ok c.in-Ok.more) ≡ more
@@ -39,24 +39,24 @@ module _ (g : given.Over) (c : Else-not-more g) (R : Reading) (lays : Lays R c.a
       subst (λ t. Matches t (answer R c.loop-more.taken)) told_more
       (c.in-Ok.ensures.reads R c.loop-more.taken reads).1
 
-  further : c.loop-more.reader.place < c.take-next.new.reader.place
+  further : c.loop-more.reader.place < c.take_next.new.reader.place
   further =
       let it = moves R lays.entries c.loop-more.taken _ refl match in
       let on = goes_on R c.loop-more.taken it.0 it.1.0 lays.entries it.1.1 in
       omega (arith, reads.next, now_reads.next, on.3)
 
-same_trace : (g : given.Over) (c : Else-not-more g) → c.take-next.new.reader.trace.now ≡ c.args.trace.now
+same_trace : (g : given.Over) (c : Else-not-more g) → c.take_next.new.reader.trace.now ≡ c.args.trace.now
 same_trace g c =
     let lays = reading_lays c.args.trace.now in
     sym (now_reads g c (reading c.args.trace.now) lays).lays.bytes ∙ lays.bytes
 
-within : (g : given.Over) (c : Else-not-more g) → c.take-next.new.reader.place ≤ length c.args.trace.now
+within : (g : given.Over) (c : Else-not-more g) → c.take_next.new.reader.place ≤ length c.args.trace.now
 within g c =
-    let inside : c.take-next.new.reader.place ≤ length c.take-next.new.reader.trace.now = c.take-next.new.reader.within in
+    let inside : c.take_next.new.reader.place ≤ length c.take_next.new.reader.trace.now = c.take_next.new.reader.within in
     omega (arith, inside, ap length (same_trace g c))
 
-pub overflow-add-taken : goal.overflow-add-taken
-overflow-add-taken g c =
+pub overflow_add-taken : goal.overflow_add-taken
+overflow_add-taken g c =
     let lays = reading_lays c.args.trace.now in
     omega (arith, within g c, further g c (reading c.args.trace.now) lays, c.loop-more.invariant.2)
 
@@ -95,7 +95,7 @@ returns-then-not-more g c = λ first T B stands.
     let done = ends_there R lays.entries k B so.0 so.1 (answer R k) refl match in
     record {
       answers = sym done.0;
-      stands = subst (λ C. Stands m first T C c.take-next.new.self) (sym done.1)
+      stands = subst (λ C. Stands m first T C c.take_next.new.self) (sym done.1)
           (c.in-Ok.ensures.steps R k reads first T so.0 so.2).1;
       refused = λ refused. absurd (both_ways true refused refl);
     }
@@ -112,6 +112,6 @@ returns-in-Err g c = λ first T B stands.
     let done = halts_there R lays.entries k B so.0 so.1 (answer R k) refl (c.in-Err.ensures.reads R k reads).1 steps.0 in
     record {
       answers = sym done.0;
-      stands = subst (λ C. Stands m first T C c.take-next.new.self) (sym done.1) steps.1;
+      stands = subst (λ C. Stands m first T C c.take_next.new.self) (sym done.1) steps.1;
       refused = λ refused. absurd (both_ways true refused refl);
     }

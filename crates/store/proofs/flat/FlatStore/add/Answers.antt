@@ -24,11 +24,11 @@ returns c =
         no_slot = λ h. absurd (omega (arith, c.slots.ensures));
         ceiling = λ h k. absurd (omega arith);
         added = λ h k.
-            let weight : c.saturating-add-weight.result ≡ f.weight + n = omega arith in
+            let weight : c.saturating_add-weight.result ≡ f.weight + n = omega arith in
             let held : get_or (cells f) slot 0 ≡ get_or table slot 0 = get_or-take 1024 table slot 0 front in
-            let sum : c.saturating-add.result ≡ get_or (cells f) slot 0 + n = omega (arith, held, entry_light (cells f) slot, live.sound.adds, live.sound.light) in
-            let after : take 1024 (set table slot c.saturating-add.result) ≡ more (cells f) slot n =
-            take-set-lt 1024 table slot c.saturating-add.result front ∙ ap (set (cells f) slot) sum in
+            let sum : c.saturating_add.result ≡ get_or (cells f) slot 0 + n = omega (arith, held, entry_light (cells f) slot, live.sound.adds, live.sound.light) in
+            let after : take 1024 (set table slot c.saturating_add.result) ≡ more (cells f) slot n =
+            take-set-lt 1024 table slot c.saturating_add.result front ∙ ap (set (cells f) slot) sum in
             record {
               answers = ap Ok weight;
               slots = ap length after ∙ length_more (cells f) slot n;
@@ -41,5 +41,5 @@ returns c =
               admits = λ T a. ap (λ U. more U slot n) a ∙ sym after;
             };
       };
-      behind = drop-set-lt 1024 table slot c.saturating-add.result front;
+      behind = drop-set-lt 1024 table slot c.saturating_add.result front;
     }
