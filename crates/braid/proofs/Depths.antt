@@ -1,5 +1,5 @@
 -- The modulus of a depth, and what n units more do to a quotient and a remainder by it.
-use Rattle.std.proofs.Common.{◌≡◌, ℕ, ◌+◌, ◌*◌, ◌/◌, ◌%◌, ◌^◌, ◌<◌, ◌≤◌, Bool, true, false, cond, ◌&&◌, leb, Ok, Err, Result, sym, refl, ap, ◌∙◌, subst, inl, inr, mul-le-mul_right, mod-eq_of_lt, mul-le-mul_left, arith, pow_mono}
+use Rattle.std.proofs.Common.{◌≡◌, ℕ, ◌+◌, ◌*◌, ◌/◌, ◌%◌, ◌^◌, ◌<◌, ◌≤◌, Bool, true, false, cond, ◌&&◌, leb, Ok, Err, Result, sym, ap, ◌∙◌, inl, inr, mul-le-mul_right, mod-eq_of_lt, mul-le-mul_left, arith, pow_mono}
 use native.Mathlib.Nat.{mul-add-div, div-add-mod, mod-le, mul-div-le, mod-add-mod}
 use Rattle.std.proofs.lemmas.Nat.{le-div}
 use Rattle.std.proofs.lemmas.Bool.{cases_lt, le-leb, lt-leb}

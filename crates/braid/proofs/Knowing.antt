@@ -1,7 +1,7 @@
 -- What the tables know of a slot is what the rounds give.
-use Rattle.std.proofs.Common.{◌≡◌, ℕ, zero, suc, ◌<◌, ◌≤◌, Bool, true, false, cond, eqb, get_or, sym, refl, ap, ◌∙◌, subst, inl, inr, arith}
+use Rattle.std.proofs.Common.{◌≡◌, ℕ, zero, suc, ◌<◌, true, cond, eqb, get_or, sym, refl, ap, ◌∙◌, inl, inr, arith}
 use Rattle.std.proofs.lemmas.Bool.{cases_Bool, cond-true, cond-false, ne_eqb}
-use Rattle.rounds.specs.Rounds.{Claimant, floor_of, Low, High}
+use Rattle.rounds.specs.Rounds.{Claimant, Low, High}
 use Rattle.store.specs.Meaning.{Meaning, Live}
 use Rattle.braid.specs.declared.braid.Braid.{Braid}
 use Rattle.braid.specs.BraidMeaning.{raised, claimants, raised_span, braid_spans, braid_meaning}

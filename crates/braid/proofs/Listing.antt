@@ -1,9 +1,8 @@
 -- Lists made entry by entry, as loops make them, and what the decoder takes.
-use Rattle.std.proofs.Common.{◌≡◌, ℕ, zero, suc, ◌+◌, ◌^◌, ◌<◌, ◌≤◌, Bool, true, false, cond, ◌&&◌, ltb, leb, List, [], ◌∷◌, ◌++◌, length, Ok, Err, Result, sym, refl, ap, ◌∙◌, subst, add-one, arith}
-use Rattle.std.proofs.lemmas.Bool.{and_from, lt-ltb, le-leb, lt-leb}
+use Rattle.std.proofs.Common.{◌≡◌, ℕ, zero, suc, ◌+◌, ◌<◌, Bool, true, false, cond, ltb, List, [], ◌∷◌, ◌++◌, Ok, Err, Result, refl, ap, ◌∙◌, add-one, arith}
+use Rattle.std.proofs.lemmas.Bool.{and_from, lt-ltb, lt-leb}
 use Rattle.decoder.specs.Inputs.{told}
 use Rattle.decoder.specs.Limits.{reach}
-use Rattle.decoder.specs.declared.unfit.Unfit.{Unfit}
 use Rattle.store.specs.Meaning.{Within}
 use Rattle.store.specs.Sums.{listed}
 use Rattle.wiring.specs.Rising.{is_row}

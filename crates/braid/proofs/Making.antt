@@ -1,17 +1,16 @@
 -- A braid as it is made, and with one slot more.
-use Rattle.std.proofs.Common.{◌≡◌, ℕ, zero, suc, ◌+◌, ◌/◌, ◌%◌, ◌^◌, ◌<◌, ◌≤◌, Bool, true, false, eqb, leb, List, [], ◌∷◌, ◌++◌, length, get_or, take, set, replicate, sym, refl, ap, ◌∙◌, subst, inl, inr, arith, length-set}
+use Rattle.std.proofs.Common.{◌≡◌, ℕ, ◌+◌, ◌/◌, ◌%◌, ◌<◌, ◌≤◌, true, false, eqb, leb, List, [], ◌∷◌, ◌++◌, length, get_or, set, replicate, sym, refl, ap, ◌∙◌, subst, inl, inr, arith, length-set}
 use native.Mathlib.Nat.{zero-mod, zero-div}
 use lib.ListN.{length-replicate}
 use Rattle.std.proofs.lemmas.List.{get_or-set_same, get_or-set_other, get_or_append_left, get_or_push, length_push, length-take-le, take_more_set}
 use Rattle.std.proofs.lemmas.Bool.{both_ways, cases_eq, lt-leb}
 use Rattle.store.specs.FlatMeaning.{entry_light}
-use Rattle.store.specs.Meaning.{Meaning, Laws, Live, Fresh, Within}
+use Rattle.store.specs.Meaning.{Meaning, Laws, Fresh, Within}
 use Rattle.store.specs.Totals.{total}
 use Rattle.store.specs.Sums.{slot_sums}
 use Rattle.store.proofs.Sums.{listed_get_or, sums_push}
 use Rattle.wiring.specs.Rising.{is_row}
 use Rattle.braid.specs.declared.braid.Braid.{Braid}
-use Rattle.braid.specs.declared.layer.Layer.{Layer}
 use Rattle.braid.specs.BraidMeaning.{rows, row, part, raised, modulus, carried, BraidAdmits, BraidSound, braid_meaning}
 use Rattle.braid.specs.Layers.{no_rows, Room, blank, wired}
 use Rattle.braid.proofs.Depths.{modulus_least}

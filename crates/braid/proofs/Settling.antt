@@ -1,6 +1,6 @@
 -- Settling a braid: the store below is settled, the decoder has run, and what it left in the tables is
 -- what the rounds give over the spans below.
-use Rattle.std.proofs.Common.{◌≡◌, ℕ, ◌<◌, ◌≤◌, true, List, length, get_or, drop, Ok, Err, Result, sym, refl, ap, ◌∙◌, subst, inl, inr, arith}
+use Rattle.std.proofs.Common.{◌≡◌, ℕ, ◌<◌, ◌≤◌, true, List, length, get_or, Ok, Result, sym, refl, ap, ◌∙◌, subst, inl, inr, arith}
 use Rattle.std.proofs.lemmas.Bool.{le-ltb, cases_lt}
 use Rattle.decoder.specs.Decoding.{Decoded, answer}
 use Rattle.rounds.specs.declared.span.Span.{Span}
@@ -12,7 +12,7 @@ use Rattle.store.proofs.Spreading.{within_at, within_all, no_refusal}
 use Rattle.store.proofs.Sums.{get_or_listed}
 use Rattle.braid.specs.declared.braid.Braid.{Braid}
 use Rattle.braid.specs.declared.layer.Layer.{Layer}
-use Rattle.braid.specs.BraidMeaning.{rows, row, raised, carried, claimants, slot_span, closed_at, BraidAdmits, BraidSound, braid_meaning}
+use Rattle.braid.specs.BraidMeaning.{rows, row, raised, carried, claimants, slot_span, BraidSound, braid_meaning}
 use Rattle.braid.specs.BraidLaws.{raised_takes, uses_within}
 use Rattle.braid.specs.Layers.{Claimable}
 

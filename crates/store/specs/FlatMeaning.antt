@@ -1,6 +1,6 @@
 -- What a flat store means: it admits one list, its table, and knows every entry exactly.
-use Rattle.std.specs.Prelude.{◌≡◌, ℕ, zero, suc, ◌+◌, ◌^◌, ◌<◌, ◌≤◌, List, [], ◌∷◌, length, take, drop, slice_index, refl}
-use Rattle.std.proofs.Common.{sym, ap, ◌∙◌, arith, length-take}
+use Rattle.std.specs.Prelude.{◌≡◌, ℕ, zero, suc, ◌^◌, ◌≤◌, List, [], ◌∷◌, length, take, drop, slice_index}
+use Rattle.std.proofs.Common.{ap, ◌∙◌, arith, length-take}
 use Rattle.rounds.specs.declared.span.Span.{Span}
 use Rattle.store.specs.Totals.{total}
 use Rattle.store.specs.Meaning.{Meaning, Laws}

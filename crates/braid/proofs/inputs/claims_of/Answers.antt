@@ -7,10 +7,10 @@ use Rattle.braid.specs.BraidMeaning.{claimant}
 use Rattle.braid.specs.Layers.{Claimable}
 use Rattle.braid.proofs.Listing.{listed_more}
 use Rattle.braid.proofs.inputs.claims_of.Goals as goal
-use Rattle.braid.proofs.inputs.claims_of.Goals.{After-push-claim}
+use Rattle.braid.proofs.inputs.claims_of.Goals.{After-push_claim}
 
 -- slot i is taken
-taken_at : (c : After-push-claim) (able : Claimable c.args.layer.now)
+taken_at : (c : After-push_claim) (able : Claimable c.args.layer.now)
     → (c.push_claim.result ≡ Ok (length (claimants c.loop-i.claims)))
     × (claimants c.push_claim.new.claims ≡ claimants c.loop-i.claims ++ claimant c.args.layer.now c.loop-i.i ∷ [])
 taken_at c able =

@@ -1,6 +1,6 @@
-use Rattle.std.proofs.Common.{◌≡◌, ℕ, cond, List, [], ◌∷◌, ◌++◌, length, Ok, sym, refl, ap, ◌∙◌}
+use Rattle.std.proofs.Common.{◌≡◌, ℕ, List, [], ◌∷◌, ◌++◌, length, Ok, sym, refl, ap, ◌∙◌}
 use Rattle.std.proofs.lemmas.Bool.{eq-eqb, cond-true}
-use Rattle.decoder.specs.Inputs.{claimants, claim_told, grown}
+use Rattle.decoder.specs.Inputs.{claimants, grown}
 use Rattle.decoder.specs.Limits.{reach}
 use Rattle.rounds.specs.Rounds.{Claimant, nobody}
 use Rattle.wiring.specs.Wiring.{slots_of}

@@ -1,4 +1,4 @@
-use Rattle.std.proofs.Common.{◌≡◌, ◌<◌, length, get_or, take, Ok, sym, ap, ◌∙◌, subst, arith}
+use Rattle.std.proofs.Common.{◌<◌, get_or, take, Ok, sym, subst}
 use Rattle.std.proofs.lemmas.List.{take_more, take_all}
 use Rattle.store.specs.Meaning.{Spread}
 use Rattle.store.proofs.Spreading.{within_at, none_yet, one_more, room, still_live, no_refusal}

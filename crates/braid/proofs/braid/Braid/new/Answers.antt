@@ -1,4 +1,4 @@
-use Rattle.std.proofs.Common.{◌≡◌, sym, refl, subst}
+use Rattle.std.proofs.Common.{sym, refl, subst}
 use Rattle.store.specs.Meaning.{Fresh}
 use Rattle.braid.specs.declared.layer.Layer.{Layer}
 use Rattle.braid.specs.BraidMeaning.{BraidSound, braid_meaning}

@@ -1,4 +1,4 @@
-use Rattle.std.proofs.Common.{◌≡◌, ℕ, ◌<◌, Ok, sym, refl, ap, ◌∙◌, subst, inl, inr, arith}
+use Rattle.std.proofs.Common.{◌≡◌, Ok, sym, refl, ap, ◌∙◌, subst, inl, inr, arith}
 use Rattle.store.specs.Meaning.{Within}
 use Rattle.wiring.specs.Wiring.{slots_of}
 use Rattle.braid.specs.declared.layer.Layer.{Layer}

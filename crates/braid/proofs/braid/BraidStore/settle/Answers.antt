@@ -1,13 +1,8 @@
-use Rattle.std.proofs.Common.{◌≡◌, ◌≤◌, false, length, sym, refl, ap, ◌∙◌, subst, arith}
-use Rattle.std.proofs.lemmas.Bool.{le-ltb}
-use Rattle.decoder.specs.Decoding.{answer}
+use Rattle.std.proofs.Common.{◌≤◌, length, refl, ◌∙◌, arith}
 use Rattle.store.proofs.Spreading.{no_refusal}
-use Rattle.store.specs.Meaning.{Live, Settles}
-use Rattle.braid.specs.BraidMeaning.{braid_meaning}
 use Rattle.braid.proofs.Settling.{not_many, not_short, live_below, claimable, live_after, settled_whole, settled_since, accepted}
-use Rattle.braid.proofs.braid.BraidStore.settle.Given as given
 use Rattle.braid.proofs.braid.BraidStore.settle.Goals as goal
-use Rattle.braid.proofs.braid.BraidStore.settle.Goals.{In-ok-settle}
+use Rattle.braid.proofs.braid.BraidStore.settle.Goals.{In_ok-settle}
 
 pub returns-in_err-claims : goal.returns-in_err-claims
 returns-in_err-claims g c = record {

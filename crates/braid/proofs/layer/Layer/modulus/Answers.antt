@@ -1,4 +1,4 @@
-use Rattle.std.proofs.Common.{◌≡◌, ◌^◌, ◌≤◌, sym, ap, ◌∙◌, subst}
+use Rattle.std.proofs.Common.{◌^◌, ◌≤◌, sym, ap, ◌∙◌, subst}
 use Rattle.braid.proofs.Depths.{made_depth, modulus_least, modulus_most}
 use Rattle.braid.proofs.layer.Layer.modulus.Goals as goal
 

@@ -26,8 +26,8 @@ returns-in_err-add_to_row g c = λ first T B stands.
     let why = store-number c.in_err-add_to_row.field-0.0 in
     let done = over m laws first T B e stands c.args.id n i at c.add_to_row.new.store why
     (subst (λ row. Spreads m e.store c.add_to_row.new.store row n (Err why)) is said) in
-    let out = err_from_is_err_and c.from-residual.result c.from-residual.ensures.1 in
-    let same : told_record c.from-residual.result ≡ denied why = ap told_record out.1 ∙ ap denied out.2 in
+    let out = err_from_is_err_and c.from_residual.result c.from_residual.ensures.1 in
+    let same : told_record c.from_residual.result ≡ denied why = ap told_record out.1 ∙ ap denied out.2 in
     subst (Answered m first T B (to_record c.args.id n) e
     (record { store = c.add_to_row.new.store; roster = e.roster; total = e.total; burden = e.burden })) (sym same) done
 

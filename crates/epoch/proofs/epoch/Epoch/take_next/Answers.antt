@@ -35,7 +35,7 @@ module _ (g : given.Over) (c : In-Amount g) (R : Reading) (k : ℕ) (reads : Sta
 pub returns-in_err-row : goal.returns-in_err-row
 returns-in_err-row g c =
     let here = (goal.at.returns-in_err-row g c).In-Enrol in
-    let halts = stops c.from-residual-in_err-row.result c.from-residual-in_err-row.ensures.0 in
+    let halts = stops c.from_residual-in_err-row.result c.from_residual-in_err-row.ensures.0 in
     record {
       reads = λ R k reads. (
         (c.in_ok-id.ensures R k reads).1,
@@ -50,7 +50,7 @@ returns-in_err-row g c =
 pub returns-in_err-enrol : goal.returns-in_err-enrol
 returns-in_err-enrol g c =
     let here = (goal.at.returns-in_err-enrol g c).In-Enrol in
-    let halts = stops c.from-residual-in_err-enrol.result c.from-residual-in_err-enrol.ensures.0 in
+    let halts = stops c.from_residual-in_err-enrol.result c.from_residual-in_err-enrol.ensures.0 in
     record {
       reads = λ R k reads. (
         (c.in_ok-id.ensures R k reads).1,
@@ -81,7 +81,7 @@ returns-in_ok-enrol g c =
 pub returns-in_err-record : goal.returns-in_err-record
 returns-in_err-record g c =
     let here = (goal.at.returns-in_err-record g c).In-Amount in
-    let halts = stops c.from-residual-in_err-record.result c.from-residual-in_err-record.ensures.0 in
+    let halts = stops c.from_residual-in_err-record.result c.from_residual-in_err-record.ensures.0 in
     record {
       reads = λ R k reads. (
         (c.in_ok-id.ensures R k reads).1,

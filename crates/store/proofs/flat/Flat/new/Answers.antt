@@ -1,4 +1,4 @@
-use Rattle.std.proofs.Common.{◌≡◌, ◌-◌, ◌<◌, length, sym, refl, ap, ◌∙◌, arith, length-take}
+use Rattle.std.proofs.Common.{◌≡◌, ◌-◌, length, refl, ap, ◌∙◌, arith, length-take}
 use Rattle.store.specs.Totals.{total}
 use Rattle.store.proofs.Lists.{total_none, replaced_length, replaced_front, replaced_behind}
 use Rattle.store.proofs.flat.Flat.new.Goals as goal
