@@ -1,5 +1,5 @@
 -- A list of calls, one call more at a time.
-use Rattle.std.proofs.Common.{◌≡◌, ℕ, ◌+◌, ◌<◌, List, [], ◌∷◌, ◌++◌, map, length, get_or, take, set, sym, refl, ap, ◌∙◌, subst, arith}
+use Rattle.std.proofs.Common.{◌≡◌, ℕ, ◌+◌, ◌<◌, List, [], ◌∷◌, ◌++◌, map, length, get_or, take, set, sym, refl, ap, ◌∙◌, subst}
 use Rattle.std.proofs.lemmas.List.{nil_from_length, take_more, take_more_set, map_push}
 use Rattle.store.specs.Meaning.{Meaning, Fresh}
 use Rattle.braid.specs.declared.braid.Braid.{Braid}
@@ -9,7 +9,7 @@ use Rattle.braid.specs.Layers.{blank}
 use Rattle.ledger.specs.declared.calls.Call.{Call}
 use Rattle.ledger.specs.declared.calls.Answer.{Answer}
 use Rattle.ledger.specs.Calls.{asked, told}
-use Rattle.ledger.specs.Ledger.{Asked, Said, Ledger, opened, answer, after, answers, closing}
+use Rattle.ledger.specs.Ledger.{Asked, Ledger, opened, answer, after, answers, closing}
 use Rattle.ledger.specs.Promise.{Stands, Worked}
 use Rattle.ledger.proofs.Working.{worked_more}
 

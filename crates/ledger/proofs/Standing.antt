@@ -1,10 +1,9 @@
 -- A braid that stands for a ledger answers each call as the ledger does, and stands for the ledger after it.
-use Rattle.std.proofs.Common.{◌≡◌, ℕ, zero, suc, ◌+◌, ◌/◌, ◌^◌, ◌<◌, ◌≤◌, Bool, true, false, cond, eqb, ltb, leb, List, [], ◌∷◌, ◌++◌, map, length, get_or, take, drop, Ok, Err, Result, sym, refl, ap, ◌∙◌, subst, inl, inr, arith}
+use Rattle.std.proofs.Common.{◌≡◌, ℕ, ◌+◌, ◌/◌, ◌^◌, ◌<◌, ◌≤◌, true, false, List, [], ◌∷◌, ◌++◌, length, take, Ok, Err, Result, sym, refl, ap, ◌∙◌, subst, inl, inr, arith}
 use native.Mathlib.Nat.{zero-div}
 use Rattle.std.proofs.lemmas.List.{length-map, map_push}
-use Rattle.std.proofs.lemmas.Bool.{cases_Bool, cases_lt, cases_eq, eq-eqb, ne_eqb, lt-ltb, le-ltb, le-leb, lt-leb, cond-true, cond-false}
+use Rattle.std.proofs.lemmas.Bool.{cases_Bool, cases_lt, cases_eq, eq-eqb, ne_eqb, lt-ltb, le-ltb, le-leb, lt-leb, cond-false}
 use Rattle.store.specs.Meaning.{Meaning, Laws, Live, Within, Adds, Settles}
-use Rattle.store.specs.Totals.{total}
 use Rattle.store.proofs.Sums.{total_sums_none}
 use Rattle.wiring.specs.Rising.{is_row}
 use Rattle.wiring.specs.Wiring.{row_from}
@@ -13,7 +12,7 @@ use Rattle.braid.specs.BraidMeaning as counters
 use Rattle.braid.specs.Layers.{SameWiring}
 use Rattle.braid.specs.Wires.{Wires}
 use Rattle.braid.proofs.Making.{entry_none}
-use Rattle.ledger.specs.Ledger.{Asked, wire, add, settle, Said, wired, added, settled, denied, Line, row_of, total_of, Ledger, rows, totals, weight, fits, answer, grown, after, entered}
+use Rattle.ledger.specs.Ledger.{Asked, wire, add, settle, Said, wired, added, settled, denied, row_of, total_of, Ledger, rows, totals, weight, fits, answer, after, entered}
 use Rattle.ledger.specs.Promise.{Stands, Worked}
 use Rattle.ledger.proofs.Lines.{grown_totals, grown_rows, fits_within, fits_not, made_row}
 

@@ -1,9 +1,9 @@
 -- What becomes of the work area over a list of calls.
-use Rattle.std.proofs.Common.{◌≡◌, ℕ, zero, suc, ◌+◌, ◌-◌, ◌^◌, ◌<◌, ◌≤◌, Bool, true, false, cond, ◌||◌, eqb, ltb, leb, List, [], ◌∷◌, ◌++◌, map, length, get_or, take, drop, sym, refl, ap, ◌∙◌, subst, arith, length-take}
+use Rattle.std.proofs.Common.{◌≡◌, ℕ, ◌+◌, ◌^◌, ◌≤◌, Bool, true, false, cond, ◌||◌, eqb, ltb, leb, List, [], ◌∷◌, ◌++◌, length, get_or, take, drop, sym, refl, ap, ◌∙◌, subst, arith, length-take}
 use Rattle.std.proofs.lemmas.List.{get_or_append_left, drop-append-le, take-append-drop}
 use Rattle.std.proofs.lemmas.Bool.{both_ways, cond_both, leb-true}
 use Rattle.wiring.specs.Rising.{is_row}
-use Rattle.ledger.specs.Ledger.{Asked, wire, add, settle, Said, wired, added, settled, denied, Ledger, weight, fits, answer}
+use Rattle.ledger.specs.Ledger.{wire, add, settle, Said, wired, added, settled, denied, Ledger, weight, fits, answer}
 use Rattle.ledger.specs.Promise.{some_settled, Left, Worked}
 
 abbrev settles : Said → Bool

@@ -1,7 +1,7 @@
-use Rattle.std.proofs.Common.{◌≡◌, ℕ, ◌-◌, ◌≤◌, min, true, [], ◌∷◌, ◌++◌, length, take, drop, sym, ap, ◌∙◌, subst, arith, length-take}
+use Rattle.std.proofs.Common.{◌≡◌, ◌-◌, ◌≤◌, min, true, [], ◌∷◌, ◌++◌, length, take, drop, sym, ap, ◌∙◌, subst, arith, length-take}
 use Rattle.ledger.specs.declared.calls.Call.{Call}
 use Rattle.ledger.specs.Calls.{asked, told}
-use Rattle.ledger.specs.Ledger.{Ledger, Asked, Said, settle, answer, after}
+use Rattle.ledger.specs.Ledger.{settle, answer, after}
 use Rattle.ledger.specs.Promise.{some_settled, Stands, Worked}
 use Rattle.ledger.proofs.Working.{quiet_wire, quiet_add, room_settle, quiet, in_front}
 use Rattle.ledger.proofs.run.one.Goals as goal

@@ -1,9 +1,7 @@
-use Rattle.std.proofs.Common.{◌≡◌, ℕ, ◌+◌, ◌<◌, [], ◌∷◌, length, get_or, take, drop, sym, refl, ap, ◌∙◌, subst, arith}
+use Rattle.std.proofs.Common.{◌≡◌, ◌+◌, ◌<◌, length, drop, sym, refl, ap, ◌∙◌, subst, arith}
 use Rattle.std.proofs.lemmas.List.{drop-drop, drop-set-lt}
 use Rattle.wiring.specs.Wiring.{bits_of}
-use Rattle.ledger.specs.Calls.{asked, told}
-use Rattle.ledger.specs.Ledger.{Ledger, opened, answer, after}
-use Rattle.ledger.specs.Promise.{Stands, Worked, Promise}
+use Rattle.ledger.specs.Ledger.{opened}
 use Rattle.ledger.proofs.AddingUp.{totals_add_up_lem}
 use Rattle.ledger.proofs.Ruling.{ruled, closes}
 use Rattle.ledger.proofs.Running.{SoFar, one_more, stands_first}
