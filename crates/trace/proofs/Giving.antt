@@ -1,6 +1,6 @@
 -- What a reader finds first where it stands is its next answer, and takes it to the place of the
 -- one after.
-use Rattle.std.proofs.Common.{◌≡◌, ℕ, zero, suc, ◌+◌, ◌<◌, ◌≤◌, ◌⊎◌, List, [], ◌∷◌, ◌++◌, length, take, drop, Err, Result, unwrap_or, sym, refl, ap, ◌∙◌, subst, inl, inr, add-zero, add-one, arith, length-append}
+use Rattle.std.proofs.Common.{◌≡◌, ℕ, zero, suc, ◌+◌, ◌<◌, List, [], ◌∷◌, ◌++◌, length, take, drop, Err, Result, unwrap_or, sym, refl, ap, ◌∙◌, subst, inl, inr, add-zero, add-one, arith, length-append}
 use Rattle.std.specs.List.{slice_get, flat_map}
 use Rattle.std.specs.Option.{option_map}
 use Rattle.std.proofs.lemmas.List.{append_assoc, drop_at}

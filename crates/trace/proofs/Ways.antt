@@ -1,8 +1,8 @@
 -- Every trace is laid out by exactly one reading.
-use Rattle.std.proofs.Common.{◌≡◌, ℕ, zero, suc, ◌+◌, ◌<◌, ◌≤◌, ◌⊎◌, List, [], ◌∷◌, ◌++◌, length, sym, refl, ap, ◌∙◌, subst, inl, inr, arith, length-append}
+use Rattle.std.proofs.Common.{◌≡◌, ℕ, zero, suc, ◌<◌, ◌≤◌, List, [], ◌∷◌, ◌++◌, length, sym, refl, ap, ◌∙◌, inl, inr, arith, length-append}
 use Rattle.std.specs.List.{flat_map}
 use Rattle.std.proofs.lemmas.List.{append_assoc, append_cancel_left}
-use Rattle.trace.specs.Layout.{Entry, enrol, amount, remark, Ending, Reading, lay_entry, lay_ending, lay, ProperEntries, ProperEnding, Lays, OneWay}
+use Rattle.trace.specs.Layout.{Entry, enrol, amount, remark, Ending, Reading, lay_entry, lay_ending, ProperEntries, ProperEnding, Lays, OneWay}
 use Rattle.trace.proofs.Heads.{Head, Heads, first, heads_first, first_heads}
 
 -- a record has at least its kind byte

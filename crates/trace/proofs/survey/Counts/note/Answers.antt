@@ -25,7 +25,7 @@ pub returns-in-Amount : goal.returns-in-Amount
 returns-in-Amount c = record {
   counted = λ es p e proper told so.
       count_amount es e _ p _ told _ so _ _ _ (ap told_record c.in-Amount.is) proper
-      (c.from.ensures ∙ c.unwrap-or.ensures ∙ ap (λ o. unwrap_or o 0) c.number.ensures.value);
+      (c.from.ensures ∙ c.unwrap_or.ensures ∙ ap (λ o. unwrap_or o 0) c.number.ensures.value);
   enrols = search rules;
   amounts = search rules;
   remarks = search rules;

@@ -1,4 +1,4 @@
-use Rattle.std.proofs.Common.{◌≡◌, ℕ, ◌+◌, ◌*◌, ◌^◌, ◌<◌, ◌≤◌, length, take, sym, refl, ap, ◌∙◌, subst, arith}
+use Rattle.std.proofs.Common.{◌≡◌, ℕ, ◌+◌, ◌<◌, ◌≤◌, length, take, sym, ap, ◌∙◌, subst, arith}
 use Rattle.trace.specs.Answers.{Stands, told_record, told_fault, ended}
 use Rattle.trace.specs.Layout.{Reading, Lays}
 use Rattle.trace.specs.Survey.{Counted}
@@ -47,7 +47,7 @@ one_on : (c : After-note) (R : Reading) → Lays R c.args.trace.now
 one_on c R lays =
     let so = c.loop-found.invariant.0 R lays in
     let f = c.in-Ok.ensures R so.0 so.1 in
-    let e = told_entry c.in-Ok.found c.in-default.not-End in
+    let e = told_entry c.in-Ok.found c.in_default.not-End in
     let g = goes_on R so.0 e.0 e.1.0 lays.entries (sym e.1.1 ∙ f.0) in (
       so.0 + 1,
       f.1,
