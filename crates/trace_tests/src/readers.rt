@@ -15,14 +15,14 @@ fn parts_of_the_trace(rt: HostRuntime) -> Result<(), Fail> {
         Ok(Record::Enrol { place, id, slots }) => {
             assert_eq!(rt; place, 0);
             assert_eq!(rt; number(id), Some(7));
-            assert!(rt; slots == &[0, 1, 0, 2, 1, 0]);
+            assert!(rt; slots == [0, 1, 0, 2, 1, 0].as_slice());
         }
         _ => return Err(Fail::new("no enrol")),
     }
     match reader.next() {
         Ok(Record::Amount { place, id, units }) => {
             assert_eq!(rt; place, 15);
-            assert!(rt; id == &[0, 0, 0, 0, 0, 0, 0, 7]);
+            assert!(rt; id == [0, 0, 0, 0, 0, 0, 0, 7].as_slice());
             assert_eq!(rt; number(units), Some(256));
         }
         _ => return Err(Fail::new("no amount")),
@@ -45,7 +45,7 @@ fn faults_come_again(rt: HostRuntime) -> Result<(), Fail> {
     match reader.next() {
         Ok(Record::Remark { place, text }) => {
             assert_eq!(rt; place, 0);
-            assert!(rt; text == &[1, 2, 3, 4, 5, 6, 7, 8, 9, 10, 11, 12, 13, 14, 15, 16]);
+            assert!(rt; text == [1, 2, 3, 4, 5, 6, 7, 8, 9, 10, 11, 12, 13, 14, 15, 16].as_slice());
         }
         _ => return Err(Fail::new("no remark")),
     }

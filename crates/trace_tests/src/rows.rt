@@ -18,9 +18,9 @@ fn refused(rt: &impl Abort, row: Result<Row, Refusal>) -> Result<(), Fail> {
 #[test]
 fn rows(rt: HostRuntime) -> Result<(), Fail> {
     let row = Row::new(0, 1, 2)?;
-    assert!(rt; row.slots() == &[0, 1, 2]);
+    assert!(rt; row.slots() == [0, 1, 2].as_slice());
     let far = Row::from_slice(&[7, 1023, 65535])?;
-    assert!(rt; far.slots() == &[7, 1023, 65535]);
+    assert!(rt; far.slots() == [7, 1023, 65535].as_slice());
     refused(&rt, Row::new(2, 1, 0))?;
     refused(&rt, Row::new(3, 3, 5))?;
     refused(&rt, Row::new(3, 5, 5))?;
