@@ -1,5 +1,5 @@
 -- What a row and a depth stand for, which ones are made, and the number of each refusal.
-use Rattle.std.specs.Prelude.{ℕ, ◌^◌, Bool, cond, ◌&&◌, List, Ok, Err, Result, nat_le}
+use Rattle.std.specs.Prelude.{ℕ, ◌^◌, cond, ◌&&◌, List, Ok, Err, Result, nat_le}
 use Rattle.wiring.specs.Rising.{is_row}
 use Rattle.wiring.specs.declared.refusal.Refusal.{Refusal}
 use Rattle.wiring.specs.declared.refusal.Refusal.TheVariants.{Unordered, Bits}
