@@ -1,6 +1,0 @@
-pub mod Spelling
-pub mod Rosters
-pub mod Recording
-pub mod Stepping
-pub mod Replays
-pub mod Sealing

@@ -1,4 +1,0 @@
-pub mod Calls
-pub mod Questions
-pub mod Driving
-pub mod Promise
