@@ -3,7 +3,7 @@
 
 usage: python3 tools/respell.py [--list]     at the top of the repository
 
-It reads which names specs/ and proofs/ define, leaves out those that the checker makes (an answer's, an invariant's, a
+It reads which names specs/ and proofs/ define and imports give, leaves out those that the checker makes (an answer's, an invariant's, a
 measure's), and rewrites each of the others wherever it stands: in specs/ and proofs/, in the clauses of src/, in edits, and
 in the code spans of README and docs/. Functions of src/, strings, inputs and outputs have no such names and stay.
 A name that would be a function's gets `_lem`. It says where two names would fall together in one file, and then writes
@@ -15,6 +15,7 @@ import sys
 
 DEFINED = re.compile(r"( *)(?:(?:abbrev|opaque|unfoldable|pub|instance)\s+)*(?:(?:record|data)\s+)?([^\s:(){},.=|\"]+)(?:\s+[^=]*?)?\s*:(?:\s|$)")
 TOKEN = re.compile(r"(?<![\w'·-])[A-Za-z][\w'·]*(?:-[\w'·]+)*(?![\w'·-])")
+ALIAS = re.compile(r"\bas ([a-z]\w*(?:-\w+)+)")
 LIBRARY = re.compile(r"use Rattle\.(?:std|core)\S*\.\{([^}]*)\}|use borrow\S*\.\{([^}]*)\}")
 
 
@@ -51,6 +52,9 @@ def table():
             it = DEFINED.match(line)
             if it and TOKEN.fullmatch(it[2]):
                 defined.setdefault(it[2], set()).add(path)
+    for path in files((".antt", ".rt")):
+        for name in ALIAS.findall(read(path)):
+            defined.setdefault(name, set()).add(path)
     functions = set()
     for path in files(".rt"):
         functions |= set(re.findall(r"\bfn (\w+)", read(path)))

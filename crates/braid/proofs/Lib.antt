@@ -1,5 +1,4 @@
 pub mod Depths
-pub mod Listing
 pub mod Rows
 pub mod Making
 pub mod Adding

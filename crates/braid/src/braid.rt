@@ -8,11 +8,12 @@ ghost use Rattle.braid.specs.BraidLaws.{braid_laws};
 ghost use Rattle.braid.specs.Layers.{blank, SameWiring};
 ghost use Rattle.braid.specs.Wires.{Wires, told_wire};
 
-use crate::inputs::{claims_of, spans_of};
+use crate::inputs::claims_of;
 use crate::layer::{Layer, SLOTS};
 use crate::refusal::Refusal;
 use decoder::decode;
 use rounds::span::Span;
+use store::inputs::spans_of;
 use store::refusal::Refusal as StoreRefusal;
 use store::spread::{add_to_row, within};
 use store::store::{CEILING, Store};

@@ -1,20 +1,16 @@
-// What the decoder is given: the raised slots of a layer as claimants, and the spans of the store
-// below. Rows that were wired and spans of a live store are always taken; a refusal here is for
-// what cannot come about.
-ghost use Rattle.std.specs.Prelude.{◌≡◌, ℕ, ◌+◌, ◌<◌, ◌≤◌, true, [], ◌∷◌, ◌++◌, length, Ok, MatchResult};
-ghost use Rattle.decoder.specs.Inputs.{claimants as given-claimants, spans_in};
-ghost use Rattle.store.specs.Meaning.{Live, Within};
-ghost use Rattle.store.specs.Sums.{listed};
+// What the decoder is given of a layer: its raised slots as claimants. Rows that were wired are always
+// taken; a refusal here is for what cannot come about.
+ghost use Rattle.std.specs.Prelude.{◌≡◌, ℕ, ◌<◌, true, [], ◌∷◌, ◌++◌, length, Ok, MatchResult};
+ghost use Rattle.decoder.specs.Inputs.{claimants as given_claimants};
+ghost use Rattle.store.specs.Meaning.{Within};
 ghost use Rattle.wiring.specs.Rising.{is_row};
 ghost use Rattle.braid.specs.BraidMeaning.{claimant, claimants, row};
 ghost use Rattle.braid.specs.Layers.{Claimable};
 
 use crate::layer::{Layer, SLOTS};
 use decoder::claims::Claims;
-use decoder::spans::Spans;
 use decoder::unfit::Unfit;
 use store::refusal::Refusal;
-use store::store::Store;
 use wiring::row::Row;
 
 fn taken(answer: Result<u16, Unfit>) -> Result<u16, Refusal>
@@ -29,7 +25,7 @@ fn taken(answer: Result<u16, Unfit>) -> Result<u16, Refusal>
 // Slot i as a claimant, who takes part if it is raised.
 fn push_claim(layer: &Layer, i: usize, claims: &mut Claims) -> Result<u16, Refusal>
     requires { i < 1024 }
-    ensures { is_row (row layer.now i) ≡ true → Within 1024 (row layer.now i) → length (given-claimants claims.old) < 1024 → (result ≡ Ok (length (given-claimants claims.old))) × (given-claimants claims.new ≡ given-claimants claims.old ++ claimant layer.now i ∷ []) }
+    ensures { is_row (row layer.now i) ≡ true → Within 1024 (row layer.now i) → length (given_claimants claims.old) < 1024 → (result ≡ Ok (length (given_claimants claims.old))) × (given_claimants claims.new ≡ given_claimants claims.old ++ claimant layer.now i ∷ []) }
 {
     if layer.bits[i] != 1 {
         return taken(claims.push_absent());
@@ -41,7 +37,7 @@ fn push_claim(layer: &Layer, i: usize, claims: &mut Claims) -> Result<u16, Refus
 }
 
 pub(crate) fn claims_of(layer: &Layer) -> Result<Claims, Refusal>
-    ensures { Claimable layer.now → MatchResult result (λ claims. given-claimants claims ≡ claimants layer.now) (λ _. ⊥) }
+    ensures { Claimable layer.now → MatchResult result (λ claims. given_claimants claims ≡ claimants layer.now) (λ _. ⊥) }
 {
     let mut claims = Claims::new();
     let many = usize::from(layer.count).min(SLOTS);
@@ -49,15 +45,4 @@ pub(crate) fn claims_of(layer: &Layer) -> Result<Claims, Refusal>
         push_claim(layer, i, &mut claims)?;
     }
     Ok(claims)
-}
-
-pub(crate) fn spans_of<S: Store>(below: &S) -> Result<Spans, Refusal>
-    ensures { Live S.Store.meaning below.now → MatchResult result (λ spans. spans_in spans ≡ listed (S.Store.meaning.slots below.now) (S.Store.meaning.spans below.now (S.Store.meaning.rounds below.now))) (λ _. ⊥) }
-{
-    let mut spans = Spans::new();
-    for slot in 0..below.slots() {
-        let span = below.span(slot)?;
-        taken(spans.push(span.low, span.high))?;
-    }
-    Ok(spans)
 }

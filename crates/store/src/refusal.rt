@@ -1,6 +1,6 @@
 // Why a store declined a call.
 ghost use Rattle.std.specs.Prelude.{◌≡◌};
-ghost use Rattle.decoder.specs.Decoding.{number as decoder-number};
+ghost use Rattle.decoder.specs.Decoding.{number as decoder_number};
 ghost use Rattle.store.specs.Refusals.{number};
 
 use decoder::refusal::Refusal as DecoderRefusal;
@@ -34,7 +34,7 @@ impl Refusal {
 
 // What the decoder refuses, a store refuses under the same number.
 impl From<DecoderRefusal> for Refusal {
-    ghost from_gives = { λ why r. number r ≡ decoder-number why };
+    ghost from_gives = { λ why r. number r ≡ decoder_number why };
 
     fn from(why: DecoderRefusal) -> Refusal {
         match why {

@@ -5,7 +5,7 @@ use Rattle.store.proofs.Sums.{length_listed}
 use Rattle.decoder.specs.Inputs.{claimants}
 use Rattle.braid.specs.BraidMeaning.{claimant}
 use Rattle.braid.specs.Layers.{Claimable}
-use Rattle.braid.proofs.Listing.{listed_more}
+use Rattle.store.proofs.Listing.{listed_more}
 use Rattle.braid.proofs.inputs.claims_of.Goals as goal
 use Rattle.braid.proofs.inputs.claims_of.Goals.{After-push_claim}
 

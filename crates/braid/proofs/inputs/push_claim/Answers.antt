@@ -5,7 +5,7 @@ use Rattle.decoder.specs.Limits.{reach}
 use Rattle.rounds.specs.Rounds.{Claimant, nobody}
 use Rattle.wiring.specs.Wiring.{slots_of}
 use Rattle.braid.specs.BraidMeaning.{claimant, row}
-use Rattle.braid.proofs.Listing.{reach_within, told_taken, row_made}
+use Rattle.store.proofs.Listing.{reach_within, told_taken, made_row}
 use Rattle.braid.proofs.inputs.push_claim.Goals as goal
 
 pub returns-in-Ok : goal.returns-in-Ok
@@ -14,7 +14,7 @@ returns-in-Ok c = λ one within room.
     let i = c.args.i in
     let cs = claimants c.args.claims.now in
     let made = slots_of c.in-Ok.row in
-    let same : made ≡ row l i = row_made (row l i) made one c.in-Ok.ensures in
+    let same : made ≡ row l i = (made_row (row l i) made c.in-Ok.ensures).1 in
     let told : c.push.result ≡ Ok (length cs) =
     c.push.ensures.answer ∙ told_taken (length cs) _ (reach made) room refl (ap reach same ∙ reach_within (row l i) within) in
     let grows : claimants c.push.new.self ≡ cs ++ record { row = made; floor = 1 } ∷ [] =
