@@ -1,5 +1,5 @@
 -- A braid as it is made, and with one slot more.
-use Rattle.std.proofs.Common.{◌≡◌, ℕ, ◌+◌, ◌/◌, ◌%◌, ◌<◌, ◌≤◌, true, false, eqb, leb, List, [], ◌∷◌, ◌++◌, length, get_or, set, replicate, sym, refl, ap, ◌∙◌, subst, inl, inr, arith, length-set}
+use Rattle.std.proofs.Common.{◌≡◌, ℕ, ◌+◌, ◌/◌, ◌%◌, ◌<◌, ◌≤◌, true, false, eqb, leb, List, [], ◌∷◌, ◌++◌, length, get_or, set, sym, refl, ap, ◌∙◌, subst, inl, inr, arith, length-set}
 use native.Mathlib.Nat.{zero-mod, zero-div}
 use lib.ListN.{length-replicate}
 use Rattle.std.proofs.lemmas.List.{get_or-set_same, get_or-set_other, get_or_append_left, get_or_push, length_push, length-take-le, take_more_set}
@@ -27,7 +27,7 @@ module _ {S : Type 0} (m : Meaning S) (below : S) (depth : ℕ) (shallow : 2 ≤
   unfolding no_rows
   made_sound sound = record {
     below = sound;
-    room = length-replicate 1024 (replicate {A = ℕ} 3 0);
+    room = length-replicate {A = List ℕ} 1024 (0 ∷ (1 ∷ (2 ∷ [])));
     few = omega arith;
     shallow = shallow;
     deep = deep;

@@ -40,8 +40,7 @@ module _ {S : Type 0} (m : Meaning S) (laws : Laws m) (s : Braid S) (live : Live
   claimable = (
     live.sound.few,
     λ i h.
-        let at = live.sound.wired i h in
-        (at.0, within_all 1024 (row s.layer i) (λ k l. omega (arith, within_at _ (row s.layer i) at.1 k l, laws.few s.below live.sound.below))),
+        within_all 1024 (row s.layer i) (λ k l. omega (arith, within_at _ (row s.layer i) (live.sound.wired i h).1 k l, laws.few s.below live.sound.below)),
   )
 
   module _ (b : S) (R : ℕ) (work left : List ℕ) (said : Result ℕ ℕ) (done : Settled m s.below b R work left said) where

@@ -28,8 +28,11 @@ abbrev pub raised : Layer → ℕ → Bool
 raised l i = slice_index l.bits i == 1
 
 -- a raised slot is a claimant with floor 1, since it has run over at least once; any other takes no part
+abbrev pub claimant_of : ℕ → List ℕ → Claimant
+claimant_of bit row = cond (bit == 1) (record { row = row; floor = 1 }) nobody
+
 abbrev pub claimant : Layer → ℕ → Claimant
-claimant l i = cond (raised l i) (record { row = row l i; floor = 1 }) nobody
+claimant l i = claimant_of (slice_index l.bits i) (row l i)
 
 abbrev pub claimants : Layer → List Claimant
 claimants l = listed l.count (claimant l)

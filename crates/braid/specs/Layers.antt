@@ -1,14 +1,9 @@
 -- What becomes of a layer: as it is made, with one row more, and with units added to a slot.
-use Rattle.std.specs.Prelude.{◌≡◌, ℕ, ◌+◌, ◌/◌, ◌%◌, ◌^◌, ◌<◌, ◌≤◌, true, cond, List, length, replicate, ◌==◌, nat_le, slice_index, slice_set}
+use Rattle.std.specs.Prelude.{◌≡◌, ℕ, ◌+◌, ◌/◌, ◌%◌, ◌^◌, ◌<◌, ◌≤◌, cond, List, [], ◌∷◌, length, replicate, ◌==◌, nat_le, slice_index, slice_set}
 use Rattle.rounds.specs.declared.span.Span.{Span}
 use Rattle.braid.specs.declared.layer.Layer.{Layer}
 use Rattle.store.specs.Meaning.{Within}
-use Rattle.wiring.specs.Rising.{is_row}
 use Rattle.braid.specs.BraidMeaning.{row, part, raised, raised_span, closed_at}
-
--- the depth is one of a counter
-abbrev pub Deep : Layer → Type 0
-Deep l = (2 ≤ l.depth) × (l.depth ≤ 16)
 
 -- the tables that are written one entry at a time have 1,024 entries
 pub record Room (l : Layer) : Type 0 where
@@ -25,7 +20,7 @@ unfoldable pub zeros : List ℕ
 zeros = replicate 1024 0
 
 unfoldable pub no_rows : List (List ℕ)
-no_rows = replicate 1024 (replicate 3 0)
+no_rows = replicate 1024 (0 ∷ (1 ∷ (2 ∷ [])))
 
 abbrev pub blank : ℕ → Layer
 blank depth = record {
@@ -79,6 +74,6 @@ known_low l i = cond (l.rounds == 0) 1 (slice_index l.lows i)
 abbrev pub known_span : Layer → ℕ → Span
 known_span l i = cond (raised l i) (raised_span l i l.rounds (known_low l i) (slice_index l.highs i)) (closed_at (part l i))
 
--- the slots can be claimants: each has a row, of slots that a store can have
+-- the slots can be claimants: their rows are of slots that a store can have
 abbrev pub Claimable : Layer → Type 0
-Claimable l = (l.count ≤ 1024) × ((i : ℕ) → i < l.count → (is_row (row l i) ≡ true) × Within 1024 (row l i))
+Claimable l = (l.count ≤ 1024) × ((i : ℕ) → i < l.count → Within 1024 (row l i))

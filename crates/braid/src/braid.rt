@@ -52,7 +52,7 @@ impl<S: Store> Braid<S> {
         if !within(row.slots(), self.below.slots()) {
             return Err(Refusal::Store(StoreRefusal::NoSlot));
         }
-        Ok(self.layer.wire(row.into()))
+        Ok(self.layer.wire(row))
     }
 }
 
@@ -74,10 +74,8 @@ impl<S: Store> Store for Braid<S> {
     }
 
     fn span(&self, slot: u16) -> Result<Span, StoreRefusal> {
-        match self.layer.place(slot) {
-            Some(i) => Ok(self.layer.span(i)),
-            None => Err(StoreRefusal::NoSlot),
-        }
+        let i = self.layer.place(slot)?;
+        Ok(self.layer.span(i))
     }
 
     fn add(&mut self, slot: u16, n: u32) -> Result<u64, StoreRefusal>
@@ -85,9 +83,7 @@ impl<S: Store> Store for Braid<S> {
         ensures wiring { SameWiring self.old.layer self.new.layer }
         ensures beneath { Live (braid_meaning S.Store.meaning) self.old → S.Store.meaning.slots self.new.below ≡ S.Store.meaning.slots self.old.below }
     {
-        let Some(i) = self.layer.place(slot) else {
-            return Err(StoreRefusal::NoSlot);
-        };
+        let i = self.layer.place(slot)?;
         if self.layer.weight.saturating_add(u64::from(n)) > CEILING {
             return Err(StoreRefusal::Ceiling);
         }

@@ -46,6 +46,15 @@ impl Row {
     }
 }
 
+// The first three slots: what a table holds in a place that no row was written to.
+impl Default for Row {
+    ghost is_default = { λ row. row ≡ 0 ∷ (1 ∷ (2 ∷ [])) };
+
+    fn default() -> Row {
+        Row { slots: [0, 1, 2] }
+    }
+}
+
 // A row from a list of slots; one that is not three numbers long makes none.
 impl<'a> TryFrom<&'a [u16]> for Row {
     type Error = Refusal;

@@ -1,4 +1,4 @@
-use Rattle.std.proofs.Common.{◌≡◌, true, Ok, sym, refl, ap, ◌∙◌, subst, inl, inr, arith}
+use Rattle.std.proofs.Common.{◌≡◌, true, Ok, sym, refl, ap, subst, inl, inr, arith}
 use Rattle.store.specs.Meaning.{Within}
 use Rattle.wiring.specs.Rising.{is_row}
 use Rattle.braid.specs.declared.layer.Layer.{Layer}
@@ -14,7 +14,7 @@ returns g c =
     let row = c.args.row in
     let fits : Within (m.slots s.below) row =
     subst (λ N. Within N row) c.slots-2.ensures (subst (Within c.slots-2.result) c.slots.ensures.value c.if-not-within.ensures) in
-    let is : c.wire.new.self ≡ wired s.layer row = c.wire.ensures.wired ∙ ap (wired s.layer) c.into.ensures in
+    let is : c.wire.new.self ≡ wired s.layer row = c.wire.ensures.wired in
     record {
       weighted = λ some. elim some [ inl own ↦ absurd (omega arith) | inr below ↦ absurd (omega (arith, c.weight.ensures)) ];
       full = λ own below full. absurd (omega arith);

@@ -1,34 +1,27 @@
-use Rattle.std.proofs.Common.{◌≡◌, ◌+◌, ◌^◌, ◌<◌, ◌≤◌, Ok, sym, refl, ap, ◌∙◌, subst, arith}
+use Rattle.std.proofs.Common.{◌≡◌, ◌+◌, ◌^◌, ◌<◌, ◌≤◌, Ok, sym, ap, ◌∙◌, subst, arith}
 use Rattle.store.specs.Meaning.{Live, Added}
 use Rattle.store.proofs.Spreading.{no_refusal}
 use Rattle.braid.specs.declared.braid.Braid.{Braid}
 use Rattle.braid.specs.declared.layer.Layer.{Layer}
 use Rattle.braid.specs.BraidMeaning.{braid_meaning}
-use Rattle.braid.specs.Layers.{Room, Deep, added, SameWiring}
+use Rattle.braid.specs.Layers.{Room, added}
 use Rattle.braid.proofs.Adding.{Carried, none_carried, some_carried, handed, added_whole}
 use Rattle.braid.proofs.braid.BraidStore.add.Given as given
 use Rattle.braid.proofs.braid.BraidStore.add.Goals as goal
-use Rattle.braid.proofs.braid.BraidStore.add.Goals.{After-from_residual, After-count_more, then-carry-ge1+in_ok-add_to_row, else-carry-ge1}
+use Rattle.braid.proofs.braid.BraidStore.add.Goals.{After-from_residual-in_err-add_to_row, After-count_more, then-carry-ge1+in_ok-add_to_row, else-carry-ge1}
 
 -- the store below does not decline what is carried
-not_declined : (g : given.Over) (c : After-from_residual g) (live : Live (braid_meaning g.S.Store.meaning) c.args.self.now) → ⊥
+not_declined : (g : given.Over) (c : After-from_residual-in_err-add_to_row g) (live : Live (braid_meaning g.S.Store.meaning) c.args.self.now) → ⊥
 not_declined g c live =
     let s = c.args.self.now in
-    let at = c.in-Some.ensures.some in
-    let said = handed g.S.Store.meaning g.S.Store.laws s c.in-Some.i c.args.n live.sound (omega arith) (omega (arith, live.sound.light)) live _ _ _ _
-    c.row.ensures (c.carry-carry.ensures (live.sound.shallow, live.sound.deep)) c.in_err-add_to_row.ensures in
+    let at = c.in_ok-i.ensures.ok in
+    let said = handed g.S.Store.meaning g.S.Store.laws s c.in_ok-i.i c.args.n live.sound (omega arith) (omega (arith, live.sound.light)) live _ _ _ _
+    c.row.ensures c.carry-carry.ensures c.in_err-add_to_row.ensures in
     no_refusal _ _ said.answers
 
-pub returns-in_err-add_to_row : goal.returns-in_err-add_to_row
-returns-in_err-add_to_row g c = record {
-  adds = λ live. record {
-    no_slot = λ h. absurd (omega (arith, c.in-Some.ensures.some.2));
-    ceiling = λ h k. absurd (omega arith);
-    added = λ h k. absurd (not_declined g (goal.at.returns-in_err-add_to_row g c).After-from_residual live);
-  };
-  wiring = (refl, refl, refl);
-  beneath = λ live. absurd (not_declined g (goal.at.returns-in_err-add_to_row g c).After-from_residual live);
-}
+pub returns-in_err-add_to_row-clause-adds : goal.returns-in_err-add_to_row-clause-adds
+returns-in_err-add_to_row-clause-adds g c = λ live.
+    absurd (not_declined g (goal.at.returns-in_err-add_to_row-clause-adds g c).After-from_residual-in_err-add_to_row live)
 
 -- the layer is as it was when the units are counted, whatever was carried
 same_layer : (g : given.Over) (c : After-count_more g) → c.if-carry-ge1.self.layer ≡ c.args.self.now.layer
@@ -38,57 +31,49 @@ same_layer g c = elim c.if-carry-ge1.branch [
 ]
 
 module _ (g : given.Over) (c : After-count_more g) (live : Live (braid_meaning g.S.Store.meaning) c.args.self.now) where
-  inside : c.in-Some.i < c.args.self.now.layer.count
-  inside = let at = c.in-Some.ensures.some in omega arith
+  inside : c.in_ok-i.i < c.args.self.now.layer.count
+  inside = let at = c.in_ok-i.ensures.ok in omega arith
 
   fits : c.args.self.now.layer.weight + c.args.n ≤ 2 ^ 40
   fits = omega (arith, live.sound.light)
 
-  deep : Deep c.args.self.now.layer
-  deep = (live.sound.shallow, live.sound.deep)
-
-  below : Carried g.S.Store.meaning g.S.Store.laws c.args.self.now c.in-Some.i c.args.n live.sound inside fits c.if-carry-ge1.self.below
+  below : Carried g.S.Store.meaning g.S.Store.laws c.args.self.now c.in_ok-i.i c.args.n live.sound inside fits c.if-carry-ge1.self.below
   below =
       let m = g.S.Store.meaning in
       let laws = g.S.Store.laws in
       let s = c.args.self.now in
-      let i = c.in-Some.i in
+      let i = c.in_ok-i.i in
       let n = c.args.n in
       elim c.if-carry-ge1.branch [
         | then-carry-ge1+in_ok-add_to_row w ↦
             subst (λ (b : Braid g.row.S.Denot). Carried m laws s i n live.sound inside fits b.below) (sym w.self-is)
             (some_carried m laws s i n live.sound inside fits _ _
-            (handed m laws s i n live.sound inside fits live _ _ _ _ w.row.ensures (c.carry-carry.ensures deep) w.add_to_row.ensures))
+            (handed m laws s i n live.sound inside fits live _ _ _ _ w.row.ensures c.carry-carry.ensures w.add_to_row.ensures))
         | else-carry-ge1 w ↦
             subst (λ (b : Braid g.row.S.Denot). Carried m laws s i n live.sound inside fits b.below) (sym w.self-is)
-            (none_carried m laws s i n live.sound inside fits (subst (λ q. q < 1) (c.carry-carry.ensures deep) w.if-carry-ge1.false))
+            (none_carried m laws s i n live.sound inside fits (subst (λ q. q < 1) c.carry-carry.ensures w.if-carry-ge1.false))
       ]
 
-  counted : c.count_more.new.self ≡ added c.args.self.now.layer c.in-Some.i c.args.n
+  counted : c.count_more.new.self ≡ added c.args.self.now.layer c.in_ok-i.i c.args.n
   counted =
       let same = same_layer g c in
-      c.count_more.ensures.added (subst Deep (sym same) deep) (subst (λ (l : Layer). l.weight + c.args.n ≤ 2 ^ 40) (sym same) fits)
-      ∙ ap (λ (l : Layer). added l c.in-Some.i c.args.n) same
+      c.count_more.ensures.added
+      ∙ ap (λ (l : Layer). added l c.in_ok-i.i c.args.n) same
 
   added_at : Added (braid_meaning g.S.Store.meaning) c.args.self.now (record { below = c.if-carry-ge1.self.below; layer = c.count_more.new.self })
       c.args.slot c.args.n (Ok c.count_more.new.self.weight)
   added_at =
       let m = g.S.Store.meaning in
       let s = c.args.self.now in
-      let at = c.in-Some.ensures.some in
+      let at = c.in_ok-i.ensures.ok in
       subst (λ slot. Added (braid_meaning m) s (record { below = c.if-carry-ge1.self.below; layer = c.count_more.new.self }) slot c.args.n (Ok c.count_more.new.self.weight))
-      at.0 (added_whole m g.S.Store.laws s c.in-Some.i c.args.n live.sound inside fits _ _ below (subst Room (same_layer g c) c.count_more.ensures.room) counted)
+      at.0 (added_whole m g.S.Store.laws s c.in_ok-i.i c.args.n live.sound inside fits _ _ below (subst Room (same_layer g c) c.count_more.ensures.room) counted)
 
-pub returns : goal.returns
-returns g c =
-    let at = c.in-Some.ensures.some in
-    let here = (goal.at.returns g c).After-count_more in
+pub returns-clause-adds : goal.returns-clause-adds
+returns-clause-adds g c = λ live.
+    let at = c.in_ok-i.ensures.ok in
     record {
-      adds = λ live. record {
-        no_slot = λ h. absurd (omega arith);
-        ceiling = λ h k. absurd (omega arith);
-        added = λ h k. added_at g here live;
-      };
-      wiring = subst (λ (l : Layer). SameWiring l c.count_more.new.self) (same_layer g here) c.count_more.ensures.wiring;
-      beneath = λ live. (below g here live).slots;
+      no_slot = λ h. absurd (omega arith);
+      ceiling = λ h k. absurd (omega arith);
+      added = λ h k. added_at g (goal.at.returns-clause-adds g c).After-count_more live;
     }

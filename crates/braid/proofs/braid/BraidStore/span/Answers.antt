@@ -3,14 +3,12 @@ use Rattle.braid.specs.BraidMeaning.{braid_spans}
 use Rattle.braid.proofs.Knowing.{known}
 use Rattle.braid.proofs.braid.BraidStore.span.Goals as goal
 
-pub returns-in-Some : goal.returns-in-Some
-returns-in-Some g c = λ live.
+pub returns : goal.returns
+returns g c = λ live.
     let m = g.S.Store.meaning in
     let s = c.args.self.now in
-    let at = c.in-Some.ensures.some in
+    let at = c.in_ok-i.ensures.ok in
     record {
       no_slot = λ h. absurd (omega arith);
-      span = λ h.
-          ap Ok (c.span.ensures (live.sound.shallow, live.sound.deep) live.sound.light ∙ known m s live c.in-Some.i (omega arith)
-          ∙ ap (braid_spans m s s.layer.rounds) at.0);
+      span = λ h. ap Ok (c.span.ensures ∙ known m s live c.in_ok-i.i (omega arith) ∙ ap (braid_spans m s s.layer.rounds) at.0);
     }
