@@ -8,36 +8,26 @@ ghost use Rattle.book.specs.Runs.{UnitsAddUp};
 
 // The units of a flow are the amounts that were accepted under its identifier, and the total is all of them; the flows are
 // those that were enrolled.
-pub fn units_add_up() -> u8
+pub fn units_add_up()
     ensures { UnitsAddUp }
-{
-    0
-}
+{}
 
 // A replay makes the calls that the records of its trace stand for, up to the first that is denied.
-pub fn replays_as_calls() -> u8
+pub fn replays_as_calls()
     ensures { ReplaysAsCalls }
-{
-    0
-}
+{}
 
 // The units of a flow lie in its line.
-pub fn lines_hold() -> u8
+pub fn lines_hold()
     ensures { LinesHold }
-{
-    0
-}
+{}
 
 // More rounds over spans that are no wider give no lower low and no higher high.
-pub fn lines_tighten() -> u8
+pub fn lines_tighten()
     ensures { LinesTighten }
-{
-    0
-}
+{}
 
 // At more rounds than flows, over closed spans, a flow that is in no knot is known exactly.
-pub fn lines_close() -> u8
+pub fn lines_close()
     ensures { LinesClose }
-{
-    0
-}
+{}

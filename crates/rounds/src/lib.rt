@@ -9,57 +9,41 @@ ghost use Rattle.rounds.specs.Laws.{OutsideLooseKnotsClose, OutsideKnotsClose};
 ghost use Rattle.rounds.specs.Cases.{ChainCloses, TwinsStayOpen, ThreeNarrow, MixedCloses};
 
 // Amounts that fit the spans lie from Low to High.
-pub fn bounds_hold() -> u8
+pub fn bounds_hold()
     ensures { BoundsHold }
-{
-    0
-}
+{}
 
 // More rounds over spans that are no wider give no lower Low and no higher High.
-pub fn more_rounds_tighten() -> u8
+pub fn more_rounds_tighten()
     ensures { MoreRoundsTighten }
-{
-    0
-}
+{}
 
 // At more rounds than claimants, whoever is in no loose knot is known exactly.
-pub fn outside_loose_knots_close() -> u8
+pub fn outside_loose_knots_close()
     ensures { OutsideLooseKnotsClose }
-{
-    0
-}
+{}
 
 // The same with every span closed and plain knots.
-pub fn outside_knots_close() -> u8
+pub fn outside_knots_close()
     ensures { OutsideKnotsClose }
-{
-    0
-}
+{}
 
 // Two claimants that share one slot close at the second round.
-pub fn chain_closes() -> u8
+pub fn chain_closes()
     ensures { ChainCloses }
-{
-    0
-}
+{}
 
 // Two claimants on one row stay open at every round.
-pub fn twins_stay_open() -> u8
+pub fn twins_stay_open()
     ensures { TwinsStayOpen }
-{
-    0
-}
+{}
 
 // Three claimants of which any two share two slots, after two rounds.
-pub fn three_narrow() -> u8
+pub fn three_narrow()
     ensures { ThreeNarrow }
-{
-    0
-}
+{}
 
 // Rows of two and three slots, two floors and an open slot.
-pub fn mixed_closes() -> u8
+pub fn mixed_closes()
     ensures { MixedCloses }
-{
-    0
-}
+{}
