@@ -8,7 +8,8 @@ ghost use Rattle.braid.specs.Layers.{blank, SameWiring};
 ghost use Rattle.braid.specs.Wires.{Wires, told_wire};
 
 use crate::inputs::claims_of;
-use crate::layer::{Layer, SLOTS};
+use crate::layer::Layer;
+use crate::place::SLOTS;
 use crate::refusal::Refusal;
 use decoder::decode;
 use rounds::span::Span;

@@ -6,6 +6,7 @@ ghost use Rattle.store.specs.declared.refusal.Refusal.TheVariants.{NoSlot};
 ghost use Rattle.braid.specs.Layers.{Room, SameWiring, blank, carry, added, wired, known_span};
 ghost use Rattle.braid.specs.BraidMeaning.{modulus, row, rows};
 
+use crate::place::{Place, SLOTS};
 use rounds::span::Span;
 use store::refusal::Refusal;
 use wiring::depth::Depth;
@@ -23,9 +24,6 @@ pub struct Layer {
     pub(crate) rounds: u16,
     pub(crate) depth: Depth,
 }
-
-// A layer has room for so many slots.
-pub(crate) const SLOTS: usize = 1024;
 
 impl Layer {
     // A layer without slots.
@@ -49,16 +47,13 @@ impl Layer {
     }
 
     // Where a slot stands in the tables.
-    pub(crate) fn place(&self, slot: u16) -> Result<usize, Refusal>
+    pub(crate) fn place(&self, slot: u16) -> Result<Place, Refusal>
         ensures err { self.now.count ≤ 1024 → MatchResult result (λ _. slot < self.now.count) (λ why. (self.now.count ≤ slot) × (why ≡ NoSlot)) }
         ensures ok { IfOk result (λ i. (i ≡ slot) × (i < 1024) × (slot < self.now.count)) }
     {
-        let i = usize::from(slot);
-        if slot < self.count && i < SLOTS {
-            Ok(i)
-        } else {
-            Err(Refusal::NoSlot)
-        }
+        Place::of(slot)
+            .filter(|_| slot < self.count)
+            .ok_or(Refusal::NoSlot)
     }
 
     // The rows of all slots, in their order.
@@ -70,11 +65,10 @@ impl Layer {
     }
 
     // The row of a slot.
-    pub(crate) fn row(&self, i: usize) -> &[u16]
-        requires { i < 1024 }
+    pub(crate) fn row(&self, i: Place) -> &[u16]
         ensures { result.now ≡ row self.now i }
     {
-        self.rows[i].slots()
+        self.rows[i.index()].slots()
     }
 
     // The number that counters of this layer count modulo.
@@ -87,23 +81,23 @@ impl Layer {
     }
 
     // How often n units more make the counter of a slot run over.
-    pub(crate) fn carry(&self, i: usize, n: u32) -> u32
-        requires { i < 1024 }
+    pub(crate) fn carry(&self, i: Place, n: u32) -> u32
         ensures { result ≡ carry self.now i n }
     {
-        let sum = u64::from(self.parts[i]) + u64::from(n);
+        let sum = u64::from(self.parts[i.index()]) + u64::from(n);
         (sum / self.modulus()) as u32
     }
 
     // Counts n units more in a slot.
-    pub(crate) fn count_more(&mut self, i: usize, n: u32)
-        requires inside { i < 1024 }
-        requires fits { self.old.weight + n ≤ 2 ^ 40 }
+    pub(crate) fn count_more(&mut self, i: Place, n: u32)
+        requires { self.old.weight + n ≤ 2 ^ 40 }
         ensures added { self.new ≡ added self.old i n }
         ensures wiring { SameWiring self.old self.new }
         ensures room { Room self.old }
     {
-        if self.carry(i, n) >= 1 {
+        let carry = self.carry(i, n);
+        let i = i.index();
+        if carry >= 1 {
             self.bits[i] = 1;
         }
         let sum = u64::from(self.parts[i]) + u64::from(n);
@@ -130,10 +124,10 @@ impl Layer {
 
     // The span of a slot at the settled rounds. Before any round a raised slot has run over once at
     // the least.
-    pub(crate) fn span(&self, i: usize) -> Span
-        requires { i < 1024 }
+    pub(crate) fn span(&self, i: Place) -> Span
         ensures { result ≡ known_span self.now i }
     {
+        let i = i.index();
         let part = u64::from(self.parts[i]);
         if self.bits[i] != 1 {
             return Span {

@@ -5,4 +5,5 @@
 pub mod braid;
 mod inputs;
 pub mod layer;
+mod place;
 pub mod refusal;
