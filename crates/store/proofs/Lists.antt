@@ -2,22 +2,21 @@
 use Rattle.std.proofs.Common.{◌≡◌, ℕ, zero, suc, ◌+◌, ◌^◌, ◌<◌, ◌≤◌, min, List, [], ◌∷◌, ◌++◌, length, get_or, replicate, take, drop, sym, refl, ap, ◌∙◌, inl, inr, arith, length-append, length-drop, length-set, length-take, set}
 use lib.Seq.{take-set-lt}
 use Rattle.std.proofs.lemmas.List.{get_or-take, drop-set-lt, append-nil, take_all, take_at, drop_at, drop_all}
+use Rattle.std.proofs.lemmas.Grind.{common_steps}
+use Rattle.std.proofs.lemmas.List.Recursion.{is_sum_by}
 use Rattle.std.proofs.lemmas.Bool.{cases_lt}
 use Rattle.store.specs.Totals.{total, more}
-use Rattle.store.specs.FlatSound.{FlatSound}
+use Rattle.store.specs.FlatView.{FlatSound}
 
 pub total_more : (T : List ℕ) (slot n : ℕ) → slot < length T → total (more T slot n) ≡ total T + n
-total_more [] slot n h = absurd (omega arith)
-total_more (x ∷ T) zero n h = omega arith
-total_more (x ∷ T) (suc slot) n h = omega (arith, total_more T slot n (omega arith))
+total_more T slot n h = grind (arith, common_steps, is_sum_by total (λ x. x) refl (λ _ _. refl))
 
 pub length_more : (T : List ℕ) (slot n : ℕ) → length (more T slot n) ≡ length T
 length_more T slot n = length-set T slot (get_or T slot 0 + n)
 
 -- a list of zeros adds up to 0
-pub total_zeros : (n : ℕ) → total (replicate n 0) ≡ 0
-total_zeros zero = refl
-total_zeros (suc n) = omega (arith, total_zeros n)
+pub total_none : (n : ℕ) → total (replicate n 0) ≡ 0
+total_none n = grind (arith, common_steps, is_sum_by total (λ x. x) refl (λ _ _. refl))
 
 -- a table whose first n numbers were replaced, where n is 1,024 or the length of the table
 module _ (xs ys : List ℕ) (n : ℕ) (n-is : n ≡ min (length xs) 1024) (long : length ys ≡ n) where

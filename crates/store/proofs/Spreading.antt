@@ -29,19 +29,6 @@ times_more : (i n : ℕ) → (i + 1) * n ≡ i * n + n
 times_more i n = add-mul i 1 n ∙ ap (λ k. i * n + k) (one-mul n)
 
 module _ {S : Type 0} (m : Meaning S) where
-  pub none_yet : (s : S) (n : ℕ) → m.sound s → Spread m s s [] n (Ok (m.weight s))
-  none_yet s n sound = record {
-    answers = ap Ok none;
-    slots = refl;
-    weight = none;
-    rounds = λ h. absurd (omega arith);
-    sound = sound;
-    admits = λ T a. a;
-  }
-    where
-      none : m.weight s ≡ m.weight s + 0 * n
-      none = omega arith
-
   pub one_more : (before mid after : S) (row : List ℕ) (slot n : ℕ) (answer : Result ℕ ℕ)
       → Spread m before mid row n (Ok (m.weight mid)) → Added m mid after slot n answer
       → Spread m before after (row ++ slot ∷ []) n (Ok (m.weight after))

@@ -3,7 +3,7 @@ use Rattle.std.specs.Prelude.{◌≡◌, ℕ, zero, suc, ◌≤◌, List, [], �
 use Rattle.std.proofs.Common.{ap, ◌∙◌, arith, length-take}
 use Rattle.rounds.specs.declared.span.Span.{Span}
 use Rattle.store.specs.Totals.{total}
-use Rattle.store.specs.FlatSound.{FlatSound}
+use Rattle.store.specs.FlatView.{FlatSound}
 use Rattle.store.specs.Meaning.{Meaning, Laws}
 use Rattle.store.specs.declared.flat.Flat.{Flat}
 

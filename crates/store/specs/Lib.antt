@@ -2,6 +2,6 @@ pub mod Refusals
 pub mod Totals
 pub mod Sums
 pub mod Meaning
-pub mod FlatSound
+pub mod FlatView
 pub mod FlatMeaning
 pub mod Inputs

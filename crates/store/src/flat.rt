@@ -20,7 +20,7 @@ pub struct Flat<'a> {
 
 // Clauses see the numbers of the table, and not the loan of them.
 impl<'a> Model for Flat<'a> {
-    ghost use Rattle.store.specs.FlatSound.{FlatView, FlatSound};
+    ghost use Rattle.store.specs.FlatView.{FlatView, FlatSound};
 
     ghost Value = { FlatView };
 
@@ -48,7 +48,7 @@ impl<'a> Flat<'a> {
 
     // Where the table has the number of a slot.
     fn place(&self, slot: u16) -> Result<usize, Refusal>
-        ensures { MatchResult result (λ place. (place ≡ slot) × (slot < length (cells self.now))) (λ why. (why ≡ Refusal.NoSlot) × (length (cells self.now) ≤ slot)) }
+        ensures { MatchResult result (λ place. (place ≡ slot) × (slot < length (cells self.now)) × (place < length self.now.table)) (λ why. (why ≡ Refusal.NoSlot) × (length (cells self.now) ≤ slot)) }
     {
         if slot < self.slots() {
             Ok(usize::from(slot))

@@ -1,11 +1,8 @@
 use Rattle.std.proofs.Common.{get_or, take, Ok, sym, refl, subst}
 use Rattle.std.proofs.lemmas.List.{take_more, take_all}
 use Rattle.store.specs.Meaning.{Spread}
-use Rattle.store.proofs.Spreading.{none_yet, one_more, next_added, no_refusal}
+use Rattle.store.proofs.Spreading.{one_more, next_added, no_refusal}
 use Rattle.store.proofs.spread.add_each.Goals as goal
-
-pub loop-slot-init : goal.loop-slot-init
-loop-slot-init g c = λ live all fits. none_yet g.S.Store.meaning _ _ live.sound
 
 pub returns-in_err-add : goal.returns-in_err-add
 returns-in_err-add g c = λ live all fits.
@@ -22,10 +19,3 @@ loop-slot-preserved g c = λ live all fits.
     let said = next_added m _ _ _ row i _ _ live all fits c.loop-slot-test.true so c.in_ok-add.ensures in
     subst (λ r. Spread m c.args.store.now c.add.new.self r c.args.n (Ok (m.weight c.add.new.self)))
     (sym (take_more row i 0 c.loop-slot-test.true)) (one_more m _ _ _ (take i row) (get_or row i 0) c.args.n _ so said)
-
-pub returns : goal.returns
-returns g c = λ live all fits.
-    let m = g.S.Store.meaning in
-    let s = c.loop-slot.store in
-    rw c.weight.ensures (subst (λ r. Spread m c.args.store.now s r c.args.n (Ok (m.weight s)))
-    (take_all c.loop-slot.slot-index c.args.row.now c.loop-slot-test.false) (c.loop-slot.invariant live all fits))

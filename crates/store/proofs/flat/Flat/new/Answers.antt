@@ -1,7 +1,7 @@
 use Rattle.std.proofs.Common.{◌≡◌, length, replicate, refl, ap, ◌∙◌, arith, length-take}
-use Rattle.store.specs.FlatSound.{FlatSound}
+use Rattle.store.specs.FlatView.{FlatSound}
 use Rattle.store.specs.Totals.{total}
-use Rattle.store.proofs.Lists.{total_zeros, replaced, replaced_length, replaced_front, replaced_behind}
+use Rattle.store.proofs.Lists.{total_none, replaced, replaced_length, replaced_front, replaced_behind}
 use Rattle.store.proofs.flat.Flat.new.Goals as goal
 
 pub invariant_of-result : goal.invariant_of-result
@@ -10,7 +10,7 @@ invariant_of-result c =
     let n = c.min-many.result in
     let zeros = c.fill.ensures.after (λ y e. e) in
     record {
-      adds = ap total (replaced_front xs c.fill.new.self n c.min-many.ensures (omega (arith, c.fill.ensures.len, length-take n xs)) ∙ zeros) ∙ total_zeros _;
+      adds = ap total (replaced_front xs c.fill.new.self n c.min-many.ensures (omega (arith, c.fill.ensures.len, length-take n xs)) ∙ zeros) ∙ total_none _;
       light = omega arith;
     }
 

@@ -4,18 +4,12 @@ use Rattle.store.specs.Totals.{more}
 use Rattle.store.proofs.Lists.{length_more, held, front_more, behind_more, sound_more}
 use Rattle.store.proofs.flat.FlatStore.add.Goals as goal
 
-pub bounds-self-inside-place : goal.bounds-self-inside-place
-bounds-self-inside-place c = omega (arith, c.in_ok-place.ensures, ap (λ f. length (cells f)) c.self.view_is, length-take 1024 c.self.inside.table.now)
-
 pub overflow_add-self : goal.overflow_add-self
 overflow_add-self c =
     let xs = c.self.inside.table.now in
     let place = c.in_ok-place.place in
     let there : place < length (take 1024 xs) = omega (arith, c.in_ok-place.ensures, ap (λ f. length (cells f)) c.self.view_is) in
     omega (arith, held xs place 0 there, entry_light (take 1024 xs) place, c.self.invariant.adds)
-
-pub bounds-self-inside-place-2 : goal.bounds-self-inside-place-2
-bounds-self-inside-place-2 c = omega (arith, c.in_ok-place.ensures, ap (λ f. length (cells f)) c.self.view_is, length-take 1024 c.self.inside.table.now)
 
 pub invariant_of-self : goal.invariant_of-self
 invariant_of-self c =

@@ -3,9 +3,6 @@ use Rattle.store.specs.FlatMeaning.{cells, twice}
 use Rattle.store.proofs.Lists.{held}
 use Rattle.store.proofs.flat.FlatStore.span.Goals as goal
 
-pub bounds-self-inside-place : goal.bounds-self-inside-place
-bounds-self-inside-place c = omega (arith, c.in_ok-place.ensures, ap (λ f. length (cells f)) c.self.view_is, length-take 1024 c.self.inside.table.now)
-
 pub returns : goal.returns
 returns c = rw (← c.self.view_is, c.closed.ensures, c.in_ok-place.ensures.0) (λ live. record {
   no_slot = λ h. absurd (omega (arith, c.in_ok-place.ensures, ap (λ f. length (cells f)) c.self.view_is));
