@@ -1,7 +1,21 @@
 // A span: what is known of a total. It lies from `low` to `high`, both of them included, and is
 // known exactly where the two are equal: the span is then closed.
+ghost use Rattle.std.specs.Prelude.{◌≡◌};
+
 #[derive(Clone, Copy, PartialEq, Eq, Debug)]
 pub struct Span {
     pub low: u64,
     pub high: u64,
+}
+
+impl Span {
+    // The span of a total that is known exactly.
+    pub fn closed(total: u64) -> Span
+        ensures { result ≡ record { low = total; high = total } }
+    {
+        Span {
+            low: total,
+            high: total,
+        }
+    }
 }

@@ -97,14 +97,6 @@ length_sums N rows a = length_listed N (reaching rows a)
 pub get_or_sums : (N : ℕ) (rows : List (List ℕ)) (a : ℕ → ℕ) (j : ℕ) → j < N → get_or (slot_sums N rows a) j 0 ≡ reaching rows a j
 get_or_sums N rows a j h = get_or_listed N (reaching rows a) j 0 h
 
-pub reaching_ext : (rows : List (List ℕ)) (a b : ℕ → ℕ) → ((i : ℕ) → i < length rows → a i ≡ b i)
-    → (j : ℕ) → reaching rows a j ≡ reaching rows b j
-reaching_ext rows a b e j = sum_ext (length rows) _ _ (λ i h. ap (λ n. cond (has j (get_or rows i [])) n 0) (e i h))
-
-pub sums_ext : (N : ℕ) (rows : List (List ℕ)) (a b : ℕ → ℕ) → ((i : ℕ) → i < length rows → a i ≡ b i)
-    → slot_sums N rows a ≡ slot_sums N rows b
-sums_ext N rows a b e = listed_ext N _ _ (λ j h. reaching_ext rows a b e j)
-
 cond_more : (t : Bool) (x y n : ℕ) → y ≡ x + n → cond t y 0 ≡ cond t x 0 + cond t n 0
 cond_more true x y n e = e
 cond_more false x y n e = refl

@@ -1,23 +1,19 @@
 -- What a flat store means: it admits one list, its table, and knows every entry exactly.
-use Rattle.std.specs.Prelude.{◌≡◌, ℕ, zero, suc, ◌^◌, ◌≤◌, List, [], ◌∷◌, length, take, drop, slice_index}
+use Rattle.std.specs.Prelude.{◌≡◌, ℕ, zero, suc, ◌≤◌, List, [], ◌∷◌, length, take, drop, slice_index}
 use Rattle.std.proofs.Common.{ap, ◌∙◌, arith, length-take}
 use Rattle.rounds.specs.declared.span.Span.{Span}
 use Rattle.store.specs.Totals.{total}
+use Rattle.store.specs.FlatView.{FlatSound}
 use Rattle.store.specs.Meaning.{Meaning, Laws}
 use Rattle.store.specs.declared.flat.Flat.{Flat}
 
 -- the slots are the first 1,024 numbers of the table, or all if there are fewer
 abbrev pub cells : Flat → List ℕ
-cells f = take 1024 f.table.now
+cells f = take 1024 f.table
 
 -- the numbers that are no slots
 abbrev pub behind : Flat → List ℕ
-behind f = drop 1024 f.table.now
-
--- the weight is what the slots hold, and at most the ceiling
-pub record FlatSound (f : Flat) : Type 0 where
-  pub adds : total (cells f) ≡ f.weight
-  pub light : f.weight ≤ 2 ^ 40
+behind f = drop 1024 f.table
 
 abbrev pub twice : ℕ → Span
 twice n = record { low = n; high = n }
@@ -29,7 +25,7 @@ flat_meaning = record {
   rounds = λ f. f.rounds;
   admits = λ f T. T ≡ cells f;
   spans = λ f R slot. twice (slice_index (cells f) slot);
-  sound = FlatSound;
+  sound = λ f. FlatSound f.table f.weight;
 }
 
 -- no entry is more than all together
@@ -40,7 +36,7 @@ entry_light (x ∷ T) (suc slot) = omega (arith, entry_light T slot)
 
 pub flat_laws : Laws flat_meaning
 flat_laws = record {
-  few = λ f o. omega (arith, length-take 1024 f.table.now);
+  few = λ f o. omega (arith, length-take 1024 f.table);
   light = λ f o. o.light;
   long = λ f o T a. ap length a;
   adds = λ f o T a. ap total a ∙ o.adds;

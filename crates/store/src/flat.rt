@@ -1,14 +1,15 @@
 // The flat store: one number for each slot, in a table that the caller lends. Its slots are the
 // first 1,024 numbers of the table, or all if there are fewer; what is behind them is never touched.
-ghost use Rattle.std.specs.Prelude.{◌≡◌, length, drop};
-ghost use Rattle.store.specs.FlatMeaning.{flat_meaning, flat_laws, behind};
+ghost use Rattle.std.specs.Prelude.{◌≡◌, ◌<◌, ◌≤◌, length, drop, MatchResult};
+ghost use Rattle.store.specs.FlatMeaning.{flat_meaning, flat_laws, cells, behind};
 ghost use Rattle.store.specs.Meaning.{Live, Fresh, Adds, Settles};
 ghost use Rattle.store.specs.Refusals.{told};
 
 use crate::refusal::Refusal;
 use crate::store::{CEILING, Store};
-use decoder::work::{AREA, ROUNDS, clear};
+use decoder::work::{AREA, ROUNDS};
 use rounds::span::Span;
+use std::marker::Model;
 
 #[derive(Drop)]
 pub struct Flat<'a> {
@@ -17,20 +18,42 @@ pub struct Flat<'a> {
     rounds: u16,
 }
 
+// Clauses see the numbers of the table, and not the loan of them.
+impl<'a> Model for Flat<'a> {
+    ghost use Rattle.store.specs.FlatView.{FlatView, FlatSound};
+
+    ghost Value = { FlatView };
+
+    ghost view = { λ f. record { table = f.table.now; weight = f.weight; rounds = f.rounds } };
+
+    ghost invariant = { λ f. FlatSound f.table.now f.weight };
+}
+
 impl<'a> Flat<'a> {
     // A store over the table, whose slots are cleared.
     pub fn new(table: &'a mut [u64]) -> Flat<'a>
         ensures fresh { Fresh flat_meaning result }
         ensures rounds { result.rounds ≡ 0 }
-        ensures table { length result.table.now ≡ length table.old }
+        ensures table { length result.table ≡ length table.old }
         ensures behind { behind result ≡ drop 1024 table.old }
     {
         let many = table.len().min(1024);
-        clear(&mut table[0..many]);
+        table[..many].fill(0);
         Flat {
             table,
             weight: 0,
             rounds: 0,
+        }
+    }
+
+    // Where the table has the number of a slot.
+    fn place(&self, slot: u16) -> Result<usize, Refusal>
+        ensures { MatchResult result (λ place. (place ≡ slot) × (slot < length (cells self.now)) × (place < length self.now.table)) (λ why. (why ≡ Refusal.NoSlot) × (length (cells self.now) ≤ slot)) }
+    {
+        if slot < self.slots() {
+            Ok(usize::from(slot))
+        } else {
+            Err(Refusal::NoSlot)
         }
     }
 }
@@ -53,29 +76,21 @@ impl<'a> Store for Flat<'a> {
     }
 
     fn span(&self, slot: u16) -> Result<Span, Refusal> {
-        if slot >= self.slots() {
-            return Err(Refusal::NoSlot);
-        }
-        let held = self.table[slot as usize];
-        Ok(Span {
-            low: held,
-            high: held,
-        })
+        let place = self.place(slot)?;
+        Ok(Span::closed(self.table[place]))
     }
 
     fn add(&mut self, slot: u16, n: u32) -> Result<u64, Refusal>
         ensures adds { Live flat_meaning self.old → Adds flat_meaning self.old self.new slot n (told result) }
         ensures behind { behind self.new ≡ behind self.old }
     {
-        if slot >= self.slots() {
-            return Err(Refusal::NoSlot);
-        }
-        let weight = self.weight.saturating_add(u64::from(n));
+        let place = self.place(slot)?;
+        let n = u64::from(n);
+        let weight = self.weight + n;
         if weight > CEILING {
             return Err(Refusal::Ceiling);
         }
-        let i = slot as usize;
-        self.table[i] = self.table[i].saturating_add(u64::from(n));
+        self.table[place] += n;
         self.weight = weight;
         self.rounds = 0;
         Ok(weight)
@@ -91,7 +106,7 @@ impl<'a> Store for Flat<'a> {
         if work.len() < AREA {
             return Err(Refusal::Work);
         }
-        clear(&mut work[0..AREA]);
+        work[..AREA].fill(0);
         self.rounds = count;
         Ok(count)
     }

@@ -9,13 +9,13 @@ use decoder::unfit::Unfit;
 #[derive(Clone, Copy, PartialEq, Eq, Debug)]
 pub enum Refusal {
     // there is no such slot
-    NoSlot,
+    NoSlot = 1,
     // the weight would pass the ceiling
-    Ceiling,
+    Ceiling = 2,
     // more rounds were asked for than 2,048
-    Rounds,
+    Rounds = 3,
     // the work area has fewer than 7,168 numbers
-    Work,
+    Work = 4,
 }
 
 impl Refusal {
@@ -23,12 +23,7 @@ impl Refusal {
     pub fn number(&self) -> u8
         ensures { result ≡ number self.now }
     {
-        match self {
-            Refusal::NoSlot => 1,
-            Refusal::Ceiling => 2,
-            Refusal::Rounds => 3,
-            Refusal::Work => 4,
-        }
+        *self as u8
     }
 }
 
@@ -48,11 +43,7 @@ impl From<DecoderRefusal> for Refusal {
 impl From<Unfit> for Refusal {
     ghost from_gives = { λ why r. number r ≡ 1 };
 
-    fn from(why: Unfit) -> Refusal {
-        match why {
-            Unfit::Full => Refusal::NoSlot,
-            Unfit::Large => Refusal::NoSlot,
-            Unfit::Slot => Refusal::NoSlot,
-        }
+    fn from(_: Unfit) -> Refusal {
+        Refusal::NoSlot
     }
 }

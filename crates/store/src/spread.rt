@@ -10,23 +10,17 @@ use crate::store::{CEILING, Store};
 pub fn within(row: &[u16], many: u16) -> bool
     ensures { MatchBool result (Within many row.now) (Within many row.now → ⊥) }
 {
-    for slot in row {
-        if *slot >= many {
-            return false;
-        }
-    }
-    true
+    row.iter().all(|slot| *slot < many)
 }
 
 // The additions one after another, where each is known to be accepted.
 fn add_each<S: Store>(store: &mut S, row: &[u16], n: u32) -> Result<u64, Refusal>
     ensures { Live S.Store.meaning store.old → Within (S.Store.meaning.slots store.old) row.now → S.Store.meaning.weight store.old + length row.now * n ≤ 2 ^ 40 → Spread S.Store.meaning store.old store.new row.now n (told result) }
 {
-    let mut weight = store.weight();
     for slot in row {
-        weight = store.add(*slot, n)?;
+        store.add(*slot, n)?;
     }
-    Ok(weight)
+    Ok(store.weight())
 }
 
 // Adds n units to each slot of the row, or to none of them. It answers the new weight.

@@ -6,7 +6,7 @@ use Rattle.ledger.proofs.run.run_on_table.Goals as goal
 
 pub returns : goal.returns
 returns c =
-    let made = c.new.result.table.now in
+    let made = c.new.result.table in
     let slots : length (take 1024 made) ≡ min (length c.args.table.now) 1024 = omega (arith, length-take 1024 made, c.new.ensures.table) in
     record {
       count = c.run.ensures.count;

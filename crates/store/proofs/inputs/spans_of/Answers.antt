@@ -46,10 +46,3 @@ loop-slot-preserved g c = λ live.
     let m = g.S.Store.meaning in
     let f = m.spans c.args.below.now (m.rounds c.args.below.now) in
     (taken_at g (goal.at.loop-slot-preserved g c).After-push live).1 ∙ ap (λ ss. ss ++ f c.loop-slot.slot ∷ []) (c.loop-slot.invariant live) ∙ sym (listed_more c.loop-slot.slot f)
-
-pub returns : goal.returns
-returns g c = λ live.
-    let m = g.S.Store.meaning in
-    let b = c.args.below.now in
-    let all : c.loop-slot.slot ≡ m.slots b = omega (arith, c.slots-slot-end.ensures) in
-    subst (λ n. spans_in c.loop-slot.spans ≡ listed n (m.spans b (m.rounds b))) all (c.loop-slot.invariant live)

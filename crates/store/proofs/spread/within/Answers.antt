@@ -1,9 +1,10 @@
-use Rattle.std.proofs.Common.{arith}
-use Rattle.store.proofs.Spreading.{within_at, within_all}
+use Rattle.std.proofs.Common.{◌<◌, ◌≤◌, rules, tests}
+use Rattle.std.proofs.lemmas.Iterator.{cases_from_all, YieldsList-from_slice}
+use Rattle.store.proofs.Spreading.{within_tested}
 use Rattle.store.proofs.spread.within.Goals as goal
 
-pub returns-then-slot-many : goal.returns-then-slot-many
-returns-then-slot-many c all = omega (arith, within_at c.args.many c.args.row.now all c.loop-slot.slot-index c.loop-slot-test.true)
-
 pub returns : goal.returns
-returns c = within_all c.args.many c.args.row.now (λ k h. c.loop-slot.invariant k (omega arith))
+returns c =
+    let N = c.args.many in
+    let row = c.args.row.now in
+    within_tested _ N row (cases_from_all _ _ _ (λ x. x < N) (λ x. N ≤ x) c.all.ensures.ran (YieldsList-from_slice row cc) (λ x q k. search (rules, tests)) (λ x q k. search (rules, tests)))

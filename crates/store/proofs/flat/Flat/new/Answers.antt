@@ -1,25 +1,27 @@
-use Rattle.std.proofs.Common.{◌≡◌, ◌-◌, length, refl, ap, ◌∙◌, arith, length-take}
+use Rattle.std.proofs.Common.{◌≡◌, length, replicate, refl, ap, ◌∙◌, arith, length-take}
+use Rattle.store.specs.FlatView.{FlatSound}
 use Rattle.store.specs.Totals.{total}
-use Rattle.store.proofs.Lists.{total_none, replaced_length, replaced_front, replaced_behind}
+use Rattle.store.proofs.Lists.{total_none, replaced, replaced_length, replaced_front, replaced_behind}
 use Rattle.store.proofs.flat.Flat.new.Goals as goal
 
-pub returns : goal.returns
-returns c =
+pub invariant_of-result : goal.invariant_of-result
+invariant_of-result c =
     let xs = c.args.table.now in
-    let ys = c.clear.new.area in
     let n = c.min-many.result in
-    let long : length ys ≡ n = omega (arith, c.clear.auto.area, length-take (n - 0) xs) in
-    let zero : total ys ≡ 0 = total_none ys (λ k h. c.clear.ensures k (omega (arith, c.clear.auto.area))) in
+    let zeros = c.fill.ensures.after (λ y e. e) in
     record {
-      fresh = record {
-        live = record {
-          sound = record { adds = ap total (replaced_front xs ys n c.min-many.ensures long) ∙ zero; light = omega arith };
-          totals = _;
-          admitted = refl;
-        };
-        empty = refl;
-      };
-      rounds = refl;
-      table = replaced_length xs ys n c.min-many.ensures long;
-      behind = replaced_behind xs ys n c.min-many.ensures long;
+      adds = ap total (replaced_front xs c.fill.new.self n c.min-many.ensures (omega (arith, c.fill.ensures.len, length-take n xs)) ∙ zeros) ∙ total_none _;
+      light = omega arith;
     }
+
+pub returns-clause-fresh : goal.returns-clause-fresh
+returns-clause-fresh c = record {
+  live = record { sound = invariant_of-result c; totals = _; admitted = refl };
+  empty = refl;
+}
+
+pub returns-clause-behind : goal.returns-clause-behind
+returns-clause-behind c =
+    let xs = c.args.table.now in
+    let n = c.min-many.result in
+    replaced_behind xs c.fill.new.self n c.min-many.ensures (omega (arith, c.fill.ensures.len, length-take n xs))
