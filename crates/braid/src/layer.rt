@@ -130,10 +130,7 @@ impl Layer {
         let i = i.index();
         let part = u64::from(self.parts[i]);
         if self.bits[i] != 1 {
-            return Span {
-                low: part,
-                high: part,
-            };
+            return Span::closed(part);
         }
         if self.rounds == 0 {
             return Span {
