@@ -1,4 +1,4 @@
-use Rattle.std.proofs.Common.{◌<◌, length, take, refl, ap, ◌∙◌, sym, arith, length-take}
+use Rattle.std.proofs.Common.{◌<◌, length, take, refl, ap, ◌∙◌, sym, arith}
 use Rattle.store.specs.FlatMeaning.{cells, entry_light}
 use Rattle.store.specs.Totals.{more}
 use Rattle.store.proofs.Lists.{length_more, held, front_more, behind_more, sound_more}

@@ -1,4 +1,4 @@
-use Rattle.std.proofs.Common.{length, Ok, ap, sym, ◌∙◌, arith, length-take}
+use Rattle.std.proofs.Common.{length, Ok, ap, sym, arith}
 use Rattle.store.specs.FlatMeaning.{cells, twice}
 use Rattle.store.proofs.Lists.{held}
 use Rattle.store.proofs.flat.FlatStore.span.Goals as goal
