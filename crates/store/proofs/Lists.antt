@@ -1,12 +1,12 @@
 -- Totals of lists, and what one entry more does to them.
-use Rattle.std.proofs.Common.{◌≡◌, ℕ, zero, suc, ◌+◌, ◌^◌, ◌<◌, ◌≤◌, min, List, [], ◌∷◌, ◌++◌, length, get_or, replicate, take, drop, sym, refl, ap, ◌∙◌, inl, inr, arith, length-append, length-drop, length-set, length-take, set}
+use Rattle.std.proofs.Common.{◌≡◌, ℕ, ◌+◌, ◌^◌, ◌<◌, ◌≤◌, min, List, [], ◌++◌, length, get_or, replicate, take, drop, sym, refl, ap, ◌∙◌, inl, inr, arith, length-append, length-drop, length-set, length-take, set}
 use lib.Seq.{take-set-lt}
 use Rattle.std.proofs.lemmas.List.{get_or-take, drop-set-lt, append-nil, take_all, take_at, drop_at, drop_all}
 use Rattle.std.proofs.lemmas.Grind.{common_steps}
 use Rattle.std.proofs.lemmas.List.Recursion.{is_sum_by}
 use Rattle.std.proofs.lemmas.Bool.{cases_lt}
 use Rattle.store.specs.Totals.{total, more}
-use Rattle.store.specs.FlatView.{FlatSound}
+use Rattle.store.specs.FlatView.{FlatView, FlatSound}
 
 pub total_more : (T : List ℕ) (slot n : ℕ) → slot < length T → total (more T slot n) ≡ total T + n
 total_more T slot n h = grind (arith, common_steps, is_sum_by total (λ x. x) refl (λ _ _. refl))
@@ -41,6 +41,10 @@ module _ (xs ys : List ℕ) (n : ℕ) (n-is : n ≡ min (length xs) 1024) (long 
         let all : n ≡ 1024 = omega arith in
         drop_at ys (drop n xs) 1024 (omega arith) ∙ ap (λ k. drop k xs) all
   ]
+
+-- what the place of a slot tells, of the table that the view shows
+pub placed : {f g : FlatView} {place slot : ℕ} {P : Type 0} → f ≡ g → (place ≡ slot) × (slot < length (take 1024 g.table)) × P → place < length (take 1024 f.table)
+placed is (same, there, _) = omega (arith, same, there, ap (λ f. length (take 1024 f.table)) is)
 
 -- a table of which one slot has n more
 module _ (xs : List ℕ) (slot n : ℕ) (there : slot < length (take 1024 xs)) where

@@ -11,6 +11,9 @@ use decoder::work::{AREA, ROUNDS};
 use rounds::span::Span;
 use std::marker::Model;
 
+// A flat store has at most so many slots.
+const SLOTS: usize = 1024;
+
 #[derive(Drop)]
 pub struct Flat<'a> {
     table: &'a mut [u64],
@@ -18,7 +21,7 @@ pub struct Flat<'a> {
     rounds: u16,
 }
 
-// Clauses see the numbers of the table, and not the loan of them.
+// Clauses see what the table holds, and not the loan of it.
 impl<'a> Model for Flat<'a> {
     ghost use Rattle.store.specs.FlatView.{FlatView, FlatSound};
 
@@ -37,7 +40,7 @@ impl<'a> Flat<'a> {
         ensures table { length result.table ≡ length table.old }
         ensures behind { behind result ≡ drop 1024 table.old }
     {
-        let many = table.len().min(1024);
+        let many = table.len().min(SLOTS);
         table[..many].fill(0);
         Flat {
             table,
@@ -64,7 +67,7 @@ impl<'a> Store for Flat<'a> {
     ghost laws = { flat_laws };
 
     fn slots(&self) -> u16 {
-        self.table.len().min(1024) as u16
+        self.table.len().min(SLOTS) as u16
     }
 
     fn weight(&self) -> u64 {

@@ -30,6 +30,7 @@ pub fn add_to_row<S: Store>(store: &mut S, row: &[u16], n: u32) -> Result<u64, R
     if !within(row, store.slots()) {
         return Err(Refusal::NoSlot);
     }
+    // A row may have any length here, so the units may be more than a number holds.
     let units = (row.len() as u64).saturating_mul(u64::from(n));
     if store.weight().saturating_add(units) > CEILING {
         return Err(Refusal::Ceiling);

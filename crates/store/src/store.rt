@@ -1,6 +1,7 @@
 // What every store means and answers. Each contract is a relation of specs/Meaning.antt, owed where
-// the store is live: its making and its calls have brought it about, and it admits a list. What a
-// store that admits no list answers, and what it then leaves behind, is free.
+// the store is live: its making and its calls have brought it about, and it admits a list.
+// `Live` is a premise of each, as a store that admits no list is a value of its type too: what that
+// one answers, and what it then leaves behind, is free.
 ghost use Rattle.std.specs.Prelude.{◌≡◌};
 ghost use Rattle.store.specs.Meaning.{Meaning, Laws, Live, Spans, Adds, Settles};
 ghost use Rattle.store.specs.Refusals.{told};

@@ -1,9 +1,8 @@
-use Rattle.std.proofs.Common.{◌≡◌, ◌^◌, ◌<◌, ◌≤◌, true, [], ◌∷◌, ◌++◌, length, Ok, sym, refl, ap, ◌∙◌, subst, arith}
+use Rattle.std.proofs.Common.{◌≡◌, ◌^◌, ◌<◌, ◌≤◌, true, [], ◌∷◌, ◌++◌, length, Ok, sym, refl, ap, ◌∙◌, arith}
 use Rattle.std.proofs.lemmas.Bool.{and_from, le-leb}
 use Rattle.decoder.specs.Inputs.{spans_in, grown}
 use Rattle.rounds.specs.declared.span.Span.{Span}
 use Rattle.store.specs.Meaning.{Live}
-use Rattle.store.specs.Sums.{listed}
 use Rattle.store.proofs.Spreading.{no_refusal}
 use Rattle.store.proofs.Sums.{length_listed}
 use Rattle.store.proofs.Listing.{listed_more, told_taken, same_ok}

@@ -1,5 +1,5 @@
-use Rattle.std.proofs.Common.{get_or, take, Ok, sym, refl, subst}
-use Rattle.std.proofs.lemmas.List.{take_more, take_all}
+use Rattle.std.proofs.Common.{get_or, take, Ok, sym, subst}
+use Rattle.std.proofs.lemmas.List.{take_more}
 use Rattle.store.specs.Meaning.{Spread}
 use Rattle.store.proofs.Spreading.{one_more, next_added, no_refusal}
 use Rattle.store.proofs.spread.add_each.Goals as goal

@@ -1,7 +1,6 @@
-use Rattle.std.proofs.Common.{◌≡◌, length, replicate, refl, ap, ◌∙◌, arith, length-take}
-use Rattle.store.specs.FlatView.{FlatSound}
+use Rattle.std.proofs.Common.{refl, ap, ◌∙◌, arith, length-take}
 use Rattle.store.specs.Totals.{total}
-use Rattle.store.proofs.Lists.{total_none, replaced, replaced_length, replaced_front, replaced_behind}
+use Rattle.store.proofs.Lists.{total_none, replaced_front, replaced_behind}
 use Rattle.store.proofs.flat.Flat.new.Goals as goal
 
 pub invariant_of-result : goal.invariant_of-result
