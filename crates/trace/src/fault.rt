@@ -34,10 +34,10 @@ impl Fault {
         ensures { result ≡ place_of self.now }
     {
         match self {
-            Fault::UnknownKind { place } => *place,
-            Fault::CutShort { place } => *place,
-            Fault::AfterEnd { place } => *place,
-            Fault::NoEnd { place } => *place,
+            Fault::UnknownKind { place }
+            | Fault::CutShort { place }
+            | Fault::AfterEnd { place }
+            | Fault::NoEnd { place } => *place,
         }
     }
 }
@@ -45,11 +45,11 @@ impl Fault {
 // What the fault means, in words.
 impl fmt::Display for Fault {
     fn fmt<W: fmt::Write>(&self, f: &mut fmt::Formatter<W>) -> fmt::Result {
-        match self {
-            Fault::UnknownKind { .. } => write!(f, "a byte that is no kind of record"),
-            Fault::CutShort { .. } => write!(f, "a record whose body is cut short"),
-            Fault::AfterEnd { .. } => write!(f, "an end record with bytes behind it"),
-            Fault::NoEnd { .. } => write!(f, "a trace that stops without an end record"),
-        }
+        f.write_str(match self {
+            Fault::UnknownKind { .. } => "a byte that is no kind of record",
+            Fault::CutShort { .. } => "a record whose body is cut short",
+            Fault::AfterEnd { .. } => "an end record with bytes behind it",
+            Fault::NoEnd { .. } => "a trace that stops without an end record",
+        })
     }
 }
