@@ -4,6 +4,7 @@ use Rattle.std.proofs.Common.{◌≡◌, ℕ, zero, suc, ◌+◌, ◌-◌, ◌<�
 use Rattle.std.specs.List.{slice_get, flat_map}
 use Rattle.std.specs.Option.{option_map}
 use Rattle.std.proofs.lemmas.List.{append_assoc, drop_at, take_rest, nil_from_length, drop_more, take-append-drop}
+use Rattle.std.proofs.lemmas.Grind.{flat_map-append}
 use Rattle.trace.specs.declared.kind.Kind.{Kind}
 use Rattle.trace.specs.declared.kind.Kind.TheVariants.{Enrol, Amount, Remark, End}
 use Rattle.trace.specs.Kinds.{code}
@@ -18,19 +19,13 @@ proper_drop zero es p = p
 proper_drop (suc k) [] p = tt
 proper_drop (suc k) (e ∷ es) p = proper_drop k es p.1
 
-split : (k : ℕ) (es : List Entry) → flat_map lay_entry (take k es) ++ flat_map lay_entry (drop k es) ≡ flat_map lay_entry es
-split zero es = refl
-split (suc k) [] = refl
-split (suc k) (e ∷ es) =
-    append_assoc (lay_entry e) (flat_map lay_entry (take k es)) (flat_map lay_entry (drop k es)) ∙ ap (λ l. lay_entry e ++ l) (split k es)
-
 -- what is left of the bytes from record k on
 left : (k : ℕ) (es : List Entry) (rest : List ℕ) → drop (length (flat_map lay_entry (take k es))) (flat_map lay_entry es ++ rest) ≡ flat_map lay_entry (drop k es) ++ rest
 left k es rest =
     let front = flat_map lay_entry (take k es) in
     let back = flat_map lay_entry (drop k es) in
-    ap (drop (length front)) (ap (λ l. l ++ rest) (sym (split k es)) ∙ append_assoc front back rest)
-    ∙ drop_at front (back ++ rest) (length front) refl
+    let split : flat_map lay_entry es ≡ front ++ back = ap (flat_map lay_entry) (sym (take-append-drop k es)) ∙ flat_map-append lay_entry (take k es) (drop k es) in
+    ap (drop (length front)) (ap (λ l. l ++ rest) split ∙ append_assoc front back rest) ∙ drop_at front (back ++ rest) (length front) refl
 
 -- the answer by what comes first, and the place after it
 abbrev said : Head → ℕ → Answer
