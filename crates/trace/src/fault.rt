@@ -3,6 +3,7 @@
 ghost use Rattle.std.specs.Prelude.{◌≡◌};
 ghost use Rattle.trace.specs.Answers.{place_of, number};
 
+use std::error::Error;
 use std::fmt;
 
 #[derive(Clone, Copy, PartialEq, Eq, Debug)]
@@ -53,3 +54,5 @@ impl fmt::Display for Fault {
         })
     }
 }
+
+impl Error for Fault {}
