@@ -1,5 +1,6 @@
 // What a reader hands out, record by record, and that its last answer comes again.
 use trace::fault::Fault;
+use trace::kind::{Kind, UnknownKind};
 use trace::number::number;
 use trace::reader::Reader;
 use trace::record::Record;
@@ -47,6 +48,16 @@ fn faults_come_again(rt: HostRuntime) {
     for _ in 0..3 {
         assert_eq!(rt; reader.next(), Err(Fault::UnknownKind { place: 17 }));
     }
+}
+
+#[test]
+fn kinds(rt: HostRuntime) {
+    for kind in [Kind::Enrol, Kind::Amount, Kind::Remark, Kind::End] {
+        assert_eq!(rt; Kind::try_from(kind as u8), Ok(kind));
+    }
+    assert_eq!(rt; Kind::try_from(0), Err(UnknownKind(0)));
+    assert_eq!(rt; Kind::try_from(5), Err(UnknownKind(5)));
+    assert_eq!(rt; Kind::Amount.body_len(), 12);
 }
 
 #[test]
