@@ -100,19 +100,19 @@ glue_two m n body =
     ∙ take-append-drop m body
 
 -- a body that is long enough gives its record
-pub enrol_heads : (body : List ℕ) → 14 ≤ length body → Heads (1 ∷ body) (inl (enrol (take 8 body) (take 6 (drop 8 body))))
+enrol_heads : (body : List ℕ) → 14 ≤ length body → Heads (1 ∷ body) (inl (enrol (take 8 body) (take 6 (drop 8 body))))
 enrol_heads body h = (
   (omega (arith, length-take 8 body), omega (arith, length-take 6 (drop 8 body), length-drop 8 body)),
   (drop 14 body, ap (λ l. 1 ∷ l) (sym (glue_two 8 6 body))),
 )
 
-pub amount_heads : (body : List ℕ) → 12 ≤ length body → Heads (2 ∷ body) (inl (amount (take 8 body) (take 4 (drop 8 body))))
+amount_heads : (body : List ℕ) → 12 ≤ length body → Heads (2 ∷ body) (inl (amount (take 8 body) (take 4 (drop 8 body))))
 amount_heads body h = (
   (omega (arith, length-take 8 body), omega (arith, length-take 4 (drop 8 body), length-drop 8 body)),
   (drop 12 body, ap (λ l. 2 ∷ l) (sym (glue_two 8 4 body))),
 )
 
-pub remark_heads : (body : List ℕ) → 16 ≤ length body → Heads (3 ∷ body) (inl (remark (take 16 body)))
+remark_heads : (body : List ℕ) → 16 ≤ length body → Heads (3 ∷ body) (inl (remark (take 16 body)))
 remark_heads body h = (omega (arith, length-take 16 body), (drop 16 body, ap (λ l. 3 ∷ l) (sym (take-append-drop 16 body))))
 
 abbrev FirstHeads : List ℕ → Type 0

@@ -1,5 +1,5 @@
 pub mod Big
 pub mod Layout
+pub mod Kinds
 pub mod Answers
-pub mod Bodies
 pub mod Survey

@@ -1,9 +1,8 @@
 -- What a survey of a trace tells: the records of each kind, the units announced, and the outcome.
-use Rattle.std.specs.Prelude.{◌≡◌, ℕ, ◌+◌, List, [], ◌∷◌, length}
+use Rattle.std.specs.Prelude.{◌≡◌, ℕ, ◌+◌, ◌*◌, ◌^◌, ◌≤◌, List, [], ◌∷◌, length, Ok, Err, Result}
 use Rattle.trace.specs.declared.survey.Counts.{Counts}
 use Rattle.trace.specs.declared.survey.Survey.{Survey}
-use Rattle.trace.specs.declared.survey.Outcome.{Outcome}
-use Rattle.trace.specs.declared.survey.Outcome.TheVariants.{End, Fault}
+use Rattle.trace.specs.declared.fault.Fault.{Fault}
 use Rattle.trace.specs.Big.{big}
 use Rattle.trace.specs.Layout.{Entry, enrol, amount, remark, Reading}
 use Rattle.trace.specs.Answers.{Answer, ended, told_fault, outcome, place}
@@ -39,10 +38,17 @@ pub record Counted (es : List Entry) (counts : Counts) : Type 0 where
   pub remarks : counts.remarks ≡ total remarks_in es
   pub units : counts.units ≡ total units_in es
 
+-- as much as n records can come to
+pub record Within (n : ℕ) (counts : Counts) : Type 0 where
+  pub enrols : counts.enrols ≤ n
+  pub amounts : counts.amounts ≤ n
+  pub remarks : counts.remarks ≤ n
+  pub units : counts.units ≤ n * 2 ^ 64
+
 -- an outcome by what it says
-abbrev pub told_outcome : Outcome → Answer
-told_outcome (End at) = ended at
-told_outcome (Fault why) = told_fault why
+abbrev pub told_outcome : Result ℕ Fault → Answer
+told_outcome (Ok at) = ended at
+told_outcome (Err why) = told_fault why
 
 -- a survey of the trace that R lays out
 pub record Surveyed (R : Reading) (survey : Survey) : Type 0 where

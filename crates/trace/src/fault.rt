@@ -3,6 +3,7 @@
 ghost use Rattle.std.specs.Prelude.{◌≡◌};
 ghost use Rattle.trace.specs.Answers.{place_of, number};
 
+use std::error::Error;
 use std::fmt;
 
 #[derive(Clone, Copy, PartialEq, Eq, Debug)]
@@ -34,10 +35,10 @@ impl Fault {
         ensures { result ≡ place_of self.now }
     {
         match self {
-            Fault::UnknownKind { place } => *place,
-            Fault::CutShort { place } => *place,
-            Fault::AfterEnd { place } => *place,
-            Fault::NoEnd { place } => *place,
+            Fault::UnknownKind { place }
+            | Fault::CutShort { place }
+            | Fault::AfterEnd { place }
+            | Fault::NoEnd { place } => *place,
         }
     }
 }
@@ -45,11 +46,13 @@ impl Fault {
 // What the fault means, in words.
 impl fmt::Display for Fault {
     fn fmt<W: fmt::Write>(&self, f: &mut fmt::Formatter<W>) -> fmt::Result {
-        match self {
-            Fault::UnknownKind { .. } => write!(f, "a byte that is no kind of record"),
-            Fault::CutShort { .. } => write!(f, "a record whose body is cut short"),
-            Fault::AfterEnd { .. } => write!(f, "an end record with bytes behind it"),
-            Fault::NoEnd { .. } => write!(f, "a trace that stops without an end record"),
-        }
+        f.write_str(match self {
+            Fault::UnknownKind { .. } => "a byte that is no kind of record",
+            Fault::CutShort { .. } => "a record whose body is cut short",
+            Fault::AfterEnd { .. } => "an end record with bytes behind it",
+            Fault::NoEnd { .. } => "a trace that stops without an end record",
+        })
     }
 }
+
+impl Error for Fault {}

@@ -3,6 +3,7 @@
 #![tactic(auto)]
 
 pub mod fault;
+pub mod kind;
 pub mod number;
 pub mod reader;
 pub mod record;

@@ -10,9 +10,5 @@ pub fn number(bytes: &[u8]) -> Option<u64>
     if bytes.len() > 8 {
         return None;
     }
-    let mut n = 0;
-    for b in bytes {
-        n = n * 256 + u64::from(*b);
-    }
-    Some(n)
+    Some(bytes.iter().fold(0, |n, b| n * 256 + u64::from(*b)))
 }

@@ -1,12 +1,57 @@
 // A reader stands in a trace, at the kind byte of the next record.
 ghost use Rattle.std.specs.Prelude.{◌≤◌, length};
 
-mod bodies;
-mod reading;
+use crate::fault::Fault;
+use crate::kind::Kind;
+use crate::record::Record;
 
 #[derive(Drop)]
 pub struct Reader<'a> {
     trace: &'a [u8],
     place: usize,
     ghost within: { place ≤ length trace.now },
+}
+
+impl<'a> Reader<'a> {
+    ghost use Rattle.std.specs.Prelude.{◌≡◌, ℕ, ◌+◌};
+    ghost use Rattle.trace.specs.Answers.{told, answer, Stands};
+    ghost use Rattle.trace.specs.Layout.{Reading, Lays};
+
+    // A reader before the first record.
+    pub fn new(trace: &'a [u8]) -> Reader<'a>
+        ensures { (R : Reading) → Lays R trace.now → Stands R 0 result }
+    {
+        Reader { trace, place: 0 }
+    }
+
+    // The next record. Past the last one it answers what stands there, the end or a fault, again
+    // and again.
+    pub fn next(&mut self) -> Result<Record<'a>, Fault>
+        ensures { (R : Reading) (k : ℕ) → Stands R k self.old → (told result ≡ answer R k) × Stands R (k + 1) self.new }
+    {
+        let place = self.place;
+        let [kind, rest @ ..] = &self.trace[place..] else {
+            return Err(Fault::NoEnd { place });
+        };
+        let kind = Kind::try_from(*kind).map_err(|_| Fault::UnknownKind { place })?;
+        let body = rest
+            .get(..kind.body_len())
+            .ok_or(Fault::CutShort { place })?;
+        let record = match kind {
+            Kind::Enrol => {
+                let (id, slots) = body.split_at(8);
+                Record::Enrol { place, id, slots }
+            }
+            Kind::Amount => {
+                let (id, units) = body.split_at(8);
+                Record::Amount { place, id, units }
+            }
+            Kind::Remark => Record::Remark { place, text: body },
+            // here the reader stays, so that its answer comes again
+            Kind::End if rest.is_empty() => return Ok(Record::End { place }),
+            Kind::End => return Err(Fault::AfterEnd { place }),
+        };
+        self.place += 1 + body.len();
+        Ok(record)
+    }
 }

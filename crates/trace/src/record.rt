@@ -1,5 +1,5 @@
 // A record of a trace, as parts of the trace itself. `place` is where its kind byte stands.
-#[derive(Clone, Copy)]
+#[derive(Clone, Copy, PartialEq, Eq, Debug)]
 pub enum Record<'a> {
     // a new flow: its identifier, 8 bytes, and the slots of its row, three numbers of 2 bytes
     Enrol {

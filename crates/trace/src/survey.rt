@@ -2,22 +2,18 @@
 ghost use Rattle.std.specs.Prelude.{◌≡◌, ℕ, ◌+◌, ◌^◌, ◌<◌, ◌≤◌, List, [], ◌∷◌, ◌++◌};
 ghost use Rattle.trace.specs.Answers.{entry, told_record};
 ghost use Rattle.trace.specs.Layout.{Entry, ProperEntry, Reading, Lays, OneWay};
-ghost use Rattle.trace.specs.Survey.{Counted, Surveyed};
+ghost use Rattle.trace.specs.Survey.{Counted, Surveyed, Within};
 
 use crate::fault::Fault;
 use crate::number::number;
 use crate::reader::Reader;
 use crate::record::Record;
 
-// How a trace ends: properly, at the place of its end record, or with a fault.
-#[derive(Clone, Copy, PartialEq, Eq, Debug)]
-pub enum Outcome {
-    End { place: usize },
-    Fault(Fault),
-}
+// How a trace ends: with its end record, whose place this is, or with a fault.
+pub type Outcome = Result<usize, Fault>;
 
 // How many records of each kind there are, and the units that the amounts add up to.
-#[derive(Clone, Copy, PartialEq, Eq, Debug)]
+#[derive(Clone, Copy, PartialEq, Eq, Default, Debug)]
 pub struct Counts {
     pub enrols: usize,
     pub amounts: usize,
@@ -33,30 +29,13 @@ pub struct Survey {
 }
 
 impl Counts {
-    fn new() -> Counts
-        ensures { Counted [] result }
-    {
-        Counts {
-            enrols: 0,
-            amounts: 0,
-            remarks: 0,
-            units: 0,
-        }
-    }
-
     // One record more.
-    fn note(&mut self, record: &Record)
-        requires enrols { self.old.enrols < 2 ^ 63 }
-        requires amounts { self.old.amounts < 2 ^ 63 }
-        requires remarks { self.old.remarks < 2 ^ 63 }
-        requires units { self.old.units < 2 ^ 127 }
-        ensures counted { (es : List Entry) (p : ℕ) (e : Entry) → ProperEntry e → told_record «record».now ≡ entry p e → Counted es self.old → Counted (es ++ e ∷ []) self.new }
-        ensures enrols { self.new.enrols ≤ self.old.enrols + 1 }
-        ensures amounts { self.new.amounts ≤ self.old.amounts + 1 }
-        ensures remarks { self.new.remarks ≤ self.old.remarks + 1 }
-        ensures units { self.new.units < self.old.units + 2 ^ 64 }
+    fn note(&mut self, found: &Record)
+        requires { Within (2 ^ 63) self.old }
+        ensures counted { (es : List Entry) (p : ℕ) (e : Entry) → ProperEntry e → told_record found.now ≡ entry p e → Counted es self.old → Counted (es ++ e ∷ []) self.new }
+        ensures within { (n : ℕ) → Within n self.old → Within (n + 1) self.new }
     {
-        match record {
+        match found {
             Record::Enrol { .. } => self.enrols += 1,
             Record::Amount { units, .. } => {
                 self.amounts += 1;
@@ -67,30 +46,31 @@ impl Counts {
             Record::End { .. } => {}
         }
     }
+
+    // Every record of the trace, and how it ends.
+    fn note_all(&mut self, trace: &[u8]) -> Outcome
+        requires { Counted [] self.old }
+        ensures { (R : Reading) → Lays R trace.now → Surveyed R (record { counts = self.new; outcome = result }) }
+    {
+        let mut reader = Reader::new(trace);
+        loop {
+            match reader.next()? {
+                Record::End { place } => return Ok(place),
+                found => self.note(&found),
+            }
+        }
+    }
 }
 
 impl Survey {
     // Goes over the whole trace.
+    #[tactic(auto, using(crate::proofs::Ways::one_way))]
     pub fn of(trace: &[u8]) -> Survey
         ensures one_way { OneWay trace.now }
         ensures surveyed { (R : Reading) → Lays R trace.now → Surveyed R result }
     {
-        let mut reader = Reader::new(trace);
-        let mut counts = Counts::new();
-        loop {
-            match reader.next() {
-                Ok(found) => match found {
-                    Record::End { place } => {
-                        let outcome = Outcome::End { place };
-                        return Survey { counts, outcome };
-                    }
-                    _ => counts.note(&found),
-                },
-                Err(fault) => {
-                    let outcome = Outcome::Fault(fault);
-                    return Survey { counts, outcome };
-                }
-            }
-        }
+        let mut counts = Counts::default();
+        let outcome = counts.note_all(trace);
+        Survey { counts, outcome }
     }
 }

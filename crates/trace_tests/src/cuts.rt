@@ -3,7 +3,7 @@
 use std::alloc::Global;
 use std::test::Fail;
 use trace::fault::Fault;
-use trace::survey::{Outcome, Survey};
+use trace::survey::{Counts, Survey};
 
 // remark at 0, enrol at 17, amount at 32, amount at 45, end at 58
 const TRACE: [u8; 59] = [
@@ -16,72 +16,68 @@ const TRACE: [u8; 59] = [
 
 #[test]
 fn every_cut(rt: HostRuntime) {
+    let none = Counts::default();
+    let remark = Counts { remarks: 1, ..none };
+    let enrol = Counts {
+        enrols: 1,
+        ..remark
+    };
+    let amount = Counts {
+        amounts: 1,
+        units: 11,
+        ..enrol
+    };
+    let both = Counts {
+        amounts: 2,
+        units: 16777742,
+        ..enrol
+    };
     for n in 0..59 {
-        let start = match n {
-            0..=16 => 0,
-            17..=31 => 17,
-            32..=44 => 32,
-            45..=57 => 45,
-            _ => 58,
+        let (start, counts) = match n {
+            0..=16 => (0, none),
+            17..=31 => (17, remark),
+            32..=44 => (32, enrol),
+            45..=57 => (45, amount),
+            _ => (58, both),
         };
-        let survey = Survey::of(&TRACE[0..n]);
-        let expected = if n == start {
+        let fault = if n == start {
             Fault::NoEnd { place: n }
         } else {
             Fault::CutShort { place: start }
         };
-        assert_eq!(rt; survey.outcome, Outcome::Fault(expected), "cut");
-        assert_eq!(rt; survey.counts.remarks, if n >= 17 { 1 } else { 0 });
-        assert_eq!(rt; survey.counts.enrols, if n >= 32 { 1 } else { 0 });
-        assert_eq!(rt;
-            survey.counts.amounts,
-            if n >= 58 {
-                2
-            } else if n >= 45 {
-                1
-            } else {
-                0
-            }
-        );
-        assert_eq!(rt;
-            survey.counts.units,
-            if n >= 58 {
-                16777742
-            } else if n >= 45 {
-                11
-            } else {
-                0
-            }
-        );
+        let expected = Survey {
+            counts,
+            outcome: Err(fault),
+        };
+        assert_eq!(rt; Survey::of(&TRACE[..n]), expected, "cut");
     }
-    let whole = Survey::of(&TRACE);
-    assert_eq!(rt; whole.outcome, Outcome::End { place: 58 });
-    assert_eq!(rt; whole.counts.units, 16777742);
+    let whole = Survey {
+        counts: both,
+        outcome: Ok(58),
+    };
+    assert_eq!(rt; Survey::of(&TRACE), whole);
 }
 
 #[test]
 fn every_kind_byte(rt: HostRuntime) {
     for kind in 0..=255u8 {
         let expected = match kind {
-            4 => Outcome::End { place: 0 },
-            1..=3 => Outcome::Fault(Fault::CutShort { place: 0 }),
-            _ => Outcome::Fault(Fault::UnknownKind { place: 0 }),
+            4 => Ok(0),
+            1..=3 => Err(Fault::CutShort { place: 0 }),
+            _ => Err(Fault::UnknownKind { place: 0 }),
         };
         assert_eq!(rt; Survey::of(&[kind]).outcome, expected);
         // behind the end record every byte is one too many
         assert_eq!(rt;
             Survey::of(&[4, kind]).outcome,
-            Outcome::Fault(Fault::AfterEnd { place: 0 })
+            Err(Fault::AfterEnd { place: 0 })
         );
     }
 }
 
 #[test]
 fn empty(rt: HostRuntime) {
-    assert_eq!(rt;
-        Survey::of(&[]).outcome,
-        Outcome::Fault(Fault::NoEnd { place: 0 })
-    );
+    assert_eq!(rt; Survey::of(&[]).outcome, Err(Fault::NoEnd { place: 0 }));
 }
 
 // 20,000 records of the greatest amount.
@@ -95,6 +91,6 @@ fn long(rt: HostRuntime) -> Result<(), Fail> {
     let survey = Survey::of(&trace);
     assert_eq!(rt; survey.counts.amounts, 20000);
     assert_eq!(rt; survey.counts.units, 85899345900000);
-    assert_eq!(rt; survey.outcome, Outcome::End { place: 260000 });
+    assert_eq!(rt; survey.outcome, Ok(260000));
     Ok(())
 }

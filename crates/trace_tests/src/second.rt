@@ -1,96 +1,129 @@
 // A second account of a trace, kept byte by byte with no look ahead: a counter of the bytes that
 // are still due to the record at hand.
 
+// What is wrong with a trace, by the number under which people know it.
 #[derive(Clone, Copy, PartialEq, Eq, Debug)]
-pub struct Sighted {
+pub enum Flaw {
+    NoKind = 11,
+    Short = 12,
+    Behind = 13,
+    Missing = 14,
+}
+
+#[derive(Clone, Copy, PartialEq, Eq, Default, Debug)]
+pub struct Tally {
     pub enrols: u64,
     pub amounts: u64,
     pub remarks: u64,
     pub units: u128,
-    // 0 for a proper end, else the fault's number
-    pub code: u8,
-    pub place: usize,
+}
+
+#[derive(Clone, Copy, PartialEq, Eq, Debug)]
+pub struct Sighted {
+    pub tally: Tally,
+    // the place of the end record, or what is wrong and where
+    pub outcome: Result<usize, (Flaw, usize)>,
+}
+
+#[derive(Clone, Copy)]
+enum Body {
+    Enrol,
+    Amount,
+    Remark,
+}
+
+// What the next byte is to be.
+#[derive(Clone, Copy)]
+enum Due {
+    Kind,
+    // one of so many that are left of a body; `sum` is what the last four spell so far
+    Part { body: Body, left: u8, sum: u64 },
+    // none, since the end was seen
+    Nothing,
+    // none that can mean anything
+    Lost(Flaw),
 }
 
 #[derive(Clone, Copy)]
 struct Watcher {
-    seen: Sighted,
-    kind: u8,
-    due: u8,
-    sum: u64,
+    tally: Tally,
+    due: Due,
+    // of the record at hand, or of the next
+    place: usize,
 }
 
 impl Watcher {
-    fn new() -> Watcher {
-        Watcher {
-            seen: Sighted {
-                enrols: 0,
-                amounts: 0,
-                remarks: 0,
-                units: 0,
-                code: 14,
-                place: 0,
-            },
-            kind: 0,
-            due: 0,
-            sum: 0,
+    fn see(&mut self, at: usize, byte: u8) {
+        match self.due {
+            Due::Kind => self.begin(at, byte),
+            Due::Part { body, left, sum } => self.go_on(at, byte, body, left, sum),
+            Due::Nothing => self.due = Due::Lost(Flaw::Behind),
+            Due::Lost(_) => {}
         }
     }
 
-    // A byte where a kind is due; false where the trace is over for good.
-    fn begin(&mut self, at: usize, byte: u8) -> bool {
-        self.seen.place = at;
-        self.kind = byte;
-        self.sum = 0;
+    fn begin(&mut self, at: usize, byte: u8) {
+        let part = |body, left| Due::Part { body, left, sum: 0 };
+        self.place = at;
         self.due = match byte {
-            1 => 14,
-            2 => 12,
-            3 => 16,
-            _ => 0,
+            1 => part(Body::Enrol, 14),
+            2 => part(Body::Amount, 12),
+            3 => part(Body::Remark, 16),
+            4 => Due::Nothing,
+            _ => Due::Lost(Flaw::NoKind),
         };
-        self.seen.code = match byte {
-            1..=3 => 12,
-            4 => 0,
-            _ => 11,
-        };
-        1 <= byte && byte <= 4
     }
 
-    // A byte of a body.
-    fn go_on(&mut self, at: usize, byte: u8) {
-        self.due = self.due.saturating_sub(1);
-        if self.due < 4 {
-            self.sum = self.sum.wrapping_mul(256).wrapping_add(u64::from(byte));
+    fn go_on(&mut self, at: usize, byte: u8, body: Body, left: u8, sum: u64) {
+        let left = left.saturating_sub(1);
+        let sum = if left < 4 {
+            sum.wrapping_mul(256).wrapping_add(u64::from(byte))
+        } else {
+            sum
+        };
+        if left > 0 {
+            self.due = Due::Part { body, left, sum };
+        } else {
+            self.close(body, sum);
+            self.due = Due::Kind;
+            self.place = at.saturating_add(1);
         }
-        if self.due == 0 {
-            match self.kind {
-                1 => self.seen.enrols = self.seen.enrols.wrapping_add(1),
-                2 => {
-                    self.seen.amounts = self.seen.amounts.wrapping_add(1);
-                    self.seen.units = self.seen.units.wrapping_add(u128::from(self.sum));
-                }
-                _ => self.seen.remarks = self.seen.remarks.wrapping_add(1),
+    }
+
+    // A record is whole.
+    fn close(&mut self, body: Body, sum: u64) {
+        match body {
+            Body::Enrol => self.tally.enrols = self.tally.enrols.wrapping_add(1),
+            Body::Amount => {
+                self.tally.amounts = self.tally.amounts.wrapping_add(1);
+                self.tally.units = self.tally.units.wrapping_add(u128::from(sum));
             }
-            self.seen.code = 14;
-            self.seen.place = at.saturating_add(1);
+            Body::Remark => self.tally.remarks = self.tally.remarks.wrapping_add(1),
+        }
+    }
+
+    fn sighted(&self) -> Sighted {
+        let outcome = match self.due {
+            Due::Kind => Err(Flaw::Missing),
+            Due::Part { .. } => Err(Flaw::Short),
+            Due::Nothing => Ok(self.place),
+            Due::Lost(flaw) => Err(flaw),
+        };
+        Sighted {
+            tally: self.tally,
+            outcome: outcome.map_err(|flaw| (flaw, self.place)),
         }
     }
 }
 
 pub fn watch(trace: &[u8]) -> Sighted {
-    let mut watcher = Watcher::new();
-    let mut going = true;
-    for (i, byte) in trace.iter().enumerate() {
-        if going {
-            if watcher.due > 0 {
-                watcher.go_on(i, *byte);
-            } else if watcher.seen.code == 0 {
-                watcher.seen.code = 13;
-                going = false;
-            } else {
-                going = watcher.begin(i, *byte);
-            }
-        }
+    let mut watcher = Watcher {
+        tally: Tally::default(),
+        due: Due::Kind,
+        place: 0,
+    };
+    for (at, byte) in trace.iter().enumerate() {
+        watcher.see(at, *byte);
     }
-    watcher.seen
+    watcher.sighted()
 }

@@ -1,6 +1,6 @@
 // The account of a trace: eight lines, each a name, a colon and a value, always in this order.
 use std::fmt;
-use trace::survey::{Outcome, Survey};
+use trace::survey::Survey;
 
 #[derive(Clone, Copy)]
 pub struct Account {
@@ -10,28 +10,22 @@ pub struct Account {
 
 impl fmt::Display for Account {
     fn fmt<W: fmt::Write>(&self, f: &mut fmt::Formatter<W>) -> fmt::Result {
-        let bytes = self.bytes;
-        let counts = self.survey.counts;
-        let enrols = counts.enrols;
-        let amounts = counts.amounts;
-        let remarks = counts.remarks;
-        let units = counts.units;
+        let Account { bytes, survey } = self;
+        let counts = &survey.counts;
         writeln!(f, "bytes: {bytes}")?;
-        writeln!(f, "enrols: {enrols}")?;
-        writeln!(f, "amounts: {amounts}")?;
-        writeln!(f, "remarks: {remarks}")?;
-        writeln!(f, "units: {units}")?;
-        match self.survey.outcome {
-            Outcome::End { place } => {
+        writeln!(f, "enrols: {}", counts.enrols)?;
+        writeln!(f, "amounts: {}", counts.amounts)?;
+        writeln!(f, "remarks: {}", counts.remarks)?;
+        writeln!(f, "units: {}", counts.units)?;
+        match survey.outcome {
+            Ok(place) => {
                 writeln!(f, "outcome: end")?;
                 writeln!(f, "at byte: {place}")?;
                 writeln!(f, "meaning: the end record, with nothing behind it")
             }
-            Outcome::Fault(fault) => {
-                let number = fault.number();
-                let place = fault.place();
-                writeln!(f, "outcome: fault {number}")?;
-                writeln!(f, "at byte: {place}")?;
+            Err(fault) => {
+                writeln!(f, "outcome: fault {}", fault.number())?;
+                writeln!(f, "at byte: {}", fault.place())?;
                 writeln!(f, "meaning: {fault}")
             }
         }

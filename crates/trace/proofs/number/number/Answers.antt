@@ -1,34 +1,27 @@
-use Rattle.std.proofs.Common.{◌≡◌, ℕ, ◌+◌, ◌*◌, ◌^◌, ◌<◌, ◌≤◌, length, Some, None, sym, ap, ◌∙◌, arith}
-use Rattle.std.proofs.lemmas.List.{take_all}
-use Rattle.std.proofs.lemmas.Bool.{le-leb, cond-true}
+use Rattle.std.proofs.Common.{rules, ◌≡◌, ◌^◌, ◌<◌, length, ℕ, ◌+◌, ◌*◌, Bor, List, [], map, ◌∙◌, refl, arith, ap, get_or, sym, append-nil}
+use Rattle.std.proofs.lemmas.Fn.{serves_by, fold_over, slice_gives, fronts}
 use Rattle.trace.specs.Big.{big}
-use Rattle.trace.proofs.Spelling.{big_more, below_more, below_word}
+use Rattle.trace.proofs.Spelling.{big_push, big_more, big_below, room}
 use Rattle.trace.proofs.number.number.Goals as goal
+use Rattle.trace.proofs.number.number.Goals.{After-fold}
 
--- a turn's number fits, whatever byte comes
-turn_fits : (i n b l : ℕ) → i < l → l ≤ 8 → n < 256 ^ i → b < 256 → n * 256 + b < 2 ^ 64
-turn_fits i n b l h k small byte = below_word (i + 1) (n * 256 + b) (omega arith) (below_more i n b small byte)
+pub fold-requires-clause-callable : goal.fold-requires-clause-callable
+fold-requires-clause-callable c =
+    serves_by _ (λ (xs : List (Bor ℕ)) (q : Unit {0} × ℕ). q.1 ≡ big (map (λ y. y.now) xs))
+    (λ xs q x v j k. let step : v.1 ≡ q.1 * 256 + x.now = search rules in step ∙ ap (λ n. n * 256 + x.now) j ∙ sym (big_more xs x))
+    fronts _ _ _ refl
+    (λ xs t q x u given one is.
+    let bytes : (i : ℕ) → get_or c.iter.result.rest.now i 0 < 256 = λ i. rw c.iter.ensures.rest (omega (arith, c.type_inv.bytes i)) in
+    let fits : q.1 * 256 + x.now < 2 ^ 64 = rw is (room xs x c.iter.result t u given one (omega (arith, ap length c.iter.ensures.rest)) bytes) in
+    search rules)
 
-pub overflow_mul-n : goal.overflow_mul-n
-overflow_mul-n c =
-    omega (arith, turn_fits c.loop-b.b-index c.loop-b.n 0 _ c.loop-b-test.true c.if-bytes-gt8.false c.loop-b.invariant.1 (omega arith))
+value : (c : After-fold) → c.fold.result ≡ big c.args.bytes.now
+value c =
+    fold_over fronts (λ y. y.now) _ (λ ys n. n ≡ big ys) _ (λ ys a x b f' j k. let more = big_push ys x.now in search rules) _ _ _ _ (slice_gives c.iter.result) refl c.fold.ensures.ran
+    ∙ ap big c.iter.ensures.rest
 
-pub overflow_add-n : goal.overflow_add-n
-overflow_add-n c =
-    let byte : c.from.result < 256 = omega (arith, c.type_inv.bytes c.loop-b.b-index) in
-    omega (arith, turn_fits c.loop-b.b-index c.loop-b.n c.from.result _ c.loop-b-test.true c.if-bytes-gt8.false c.loop-b.invariant.1 byte)
+pub returns-clause-value : goal.returns-clause-value
+returns-clause-value c = let is = value c in search rules
 
-pub loop-b-preserved : goal.loop-b-preserved
-loop-b-preserved c = (
-  ap (λ b. c.loop-b.n * 256 + b) c.from.ensures ∙ big_more c.args.bytes.now c.loop-b.b-index c.loop-b.n c.loop-b-test.true c.loop-b.invariant.0,
-  below_more c.loop-b.b-index c.loop-b.n c.from.result c.loop-b.invariant.1 (omega (arith, c.from.ensures, c.type_inv.bytes c.loop-b.b-index)),
-)
-
-pub returns : goal.returns
-returns c =
-    let bytes = c.args.bytes.now in
-    let all : c.loop-b.b-index ≡ length bytes = omega arith in
-    record {
-      value = ap Some (c.loop-b.invariant.0 ∙ ap big (take_all c.loop-b.b-index bytes c.loop-b-test.false)) ∙ sym (cond-true _ (Some (big bytes)) None (le-leb (length bytes) 8 c.if-bytes-gt8.false));
-      bound = rw all at c.loop-b.invariant.1;
-    }
+pub returns-clause-bound : goal.returns-clause-bound
+returns-clause-bound c = rw (value c) (big_below c.args.bytes.now [] (rw append-nil (λ i. omega (arith, c.type_inv.bytes i))))

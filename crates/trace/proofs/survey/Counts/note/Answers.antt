@@ -1,33 +1,23 @@
-use Rattle.std.proofs.Common.{unwrap_or, ap, ◌∙◌, rules}
+use Rattle.std.proofs.Common.{rules, ◌≡◌, ap, arith}
 use Rattle.trace.specs.Answers.{told_record}
-use Rattle.trace.proofs.Counting.{count_enrol, count_amount, count_remark}
+use Rattle.trace.specs.Big.{big}
+use Rattle.trace.specs.Layout.{enrol, amount, remark}
+use Rattle.trace.proofs.Counting.{counted_push}
 use Rattle.trace.proofs.survey.Counts.note.Goals as goal
 
-pub returns-in-Enrol : goal.returns-in-Enrol
-returns-in-Enrol c = record {
-  counted = λ es p e proper told so. count_enrol es e _ p _ told _ so _ _ (ap told_record c.in-Enrol.is);
-  enrols = search rules;
-  amounts = search rules;
-  remarks = search rules;
-  units = search rules;
-}
+pub returns-in-Enrol-clause-counted : goal.returns-in-Enrol-clause-counted
+returns-in-Enrol-clause-counted c es p e proper told so =
+    let same : e ≡ enrol c.in-Enrol.id.now c.in-Enrol.slots.now = cc (ap told_record c.in-Enrol.is) in
+    rw same (counted_push es _ _ _ so (omega arith) (omega arith) (omega arith) (omega arith))
 
-pub returns-in-Remark : goal.returns-in-Remark
-returns-in-Remark c = record {
-  counted = λ es p e proper told so. count_remark es e _ p _ told _ so _ (ap told_record c.in-Remark.is);
-  enrols = search rules;
-  amounts = search rules;
-  remarks = search rules;
-  units = search rules;
-}
+pub returns-in-Amount-clause-counted : goal.returns-in-Amount-clause-counted
+returns-in-Amount-clause-counted c es p e proper told so =
+    let same : e ≡ amount c.in-Amount.id.now c.in-Amount.units.now = cc (ap told_record c.in-Amount.is) in
+    let sizes = rw same at proper in
+    let value : c.from.result ≡ big c.in-Amount.units.now = search rules in
+    rw same (counted_push es _ _ _ so (omega arith) (omega arith) (omega arith) (omega arith))
 
-pub returns-in-Amount : goal.returns-in-Amount
-returns-in-Amount c = record {
-  counted = λ es p e proper told so.
-      count_amount es e _ p _ told _ so _ _ _ (ap told_record c.in-Amount.is) proper
-      (c.from.ensures ∙ c.unwrap_or.ensures ∙ ap (λ o. unwrap_or o 0) c.number.ensures.value);
-  enrols = search rules;
-  amounts = search rules;
-  remarks = search rules;
-  units = search rules;
-}
+pub returns-in-Remark-clause-counted : goal.returns-in-Remark-clause-counted
+returns-in-Remark-clause-counted c es p e proper told so =
+    let same : e ≡ remark c.in-Remark.text.now = cc (ap told_record c.in-Remark.is) in
+    rw same (counted_push es _ _ _ so (omega arith) (omega arith) (omega arith) (omega arith))
