@@ -1,5 +1,5 @@
 -- A list of calls, one after the other: what each accepted call enters in the ledger is what it brings.
-use Rattle.std.proofs.Common.{◌≡◌, ℕ, zero, suc, ◌+◌, ◌^◌, ◌<◌, cond, eqb, ltb, leb, List, [], ◌∷◌, ◌++◌, length, get_or, sym, refl, ap, ◌∙◌, inl, inr, arith}
+use Rattle.std.proofs.Common.{◌≡◌, ℕ, zero, suc, ◌+◌, ◌<◌, cond, eqb, List, [], ◌∷◌, ◌++◌, length, get_or, sym, refl, ap, ◌∙◌, inl, inr, arith}
 use lib.ListN.{length-map}
 use Rattle.std.proofs.lemmas.List.{append_assoc, append-nil, get_or_past, map_push}
 use Rattle.std.proofs.lemmas.Bool.{cases_lt, cond-false, ne_eqb}
@@ -7,7 +7,7 @@ use Rattle.store.specs.Totals.{more}
 use Rattle.store.proofs.Lists.{length_more}
 use Rattle.store.proofs.Sums.{get_or_more}
 use Rattle.ledger.specs.Ledger.{Asked, wire, add, settle, Said, Ledger}
-use Rattle.ledger.specs.Ledger.{row_of, total_of, rows, totals, weight, opened}
+use Rattle.ledger.specs.Ledger.{row_of, total_of, rows, totals, opened}
 use Rattle.ledger.specs.Ledger.{answer, entered, after, answers, closing}
 use Rattle.ledger.proofs.Answering.{wire_answers, add_answers, settle_answers}
 use Rattle.ledger.proofs.Lines.{grown_rows, grown_totals}

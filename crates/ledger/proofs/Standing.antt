@@ -1,5 +1,5 @@
 -- A braid that stands for a ledger answers each call as the ledger does, and stands for the ledger after it.
-use Rattle.std.proofs.Common.{◌≡◌, ℕ, ◌+◌, ◌/◌, ◌<◌, ◌≤◌, true, List, [], ◌∷◌, ◌++◌, length, take, drop, Ok, Err, Result, sym, refl, ap, ◌∙◌, subst, inl, inr, arith, length-take}
+use Rattle.std.proofs.Common.{◌≡◌, ℕ, ◌+◌, ◌/◌, ◌≤◌, true, List, [], ◌∷◌, ◌++◌, length, take, drop, Ok, Err, Result, sym, refl, ap, ◌∙◌, subst, inl, arith, length-take}
 use native.Mathlib.Nat.{zero-div}
 use Rattle.std.proofs.lemmas.List.{length-map, map_push, get_or_append_left, drop-append-le, take-append-drop}
 use Rattle.std.proofs.lemmas.Bool.{both_ways}

@@ -1,4 +1,4 @@
-use Rattle.std.proofs.Common.{◌≤◌, length, take, arith, length-take, sym}
+use Rattle.std.proofs.Common.{◌≤◌, length, arith, length-take, sym}
 use Rattle.std.proofs.lemmas.Result.{err_from_is_err_and}
 use Rattle.ledger.proofs.Standing.{wire_serves, add_served, settle_served}
 use Rattle.ledger.proofs.run.serve.Goals as goal
