@@ -7,9 +7,6 @@ use Rattle.ledger.proofs.Ruling.{ruled, closes}
 use Rattle.ledger.proofs.Running.{SoFar, one_more, stands_first}
 use Rattle.ledger.proofs.run.run.Goals as goal
 
-pub loop-i-init : goal.loop-i-init
-loop-i-init g c = (λ depth L stands. record { answers = refl; stands = stands; worked = refl }, refl)
-
 pub loop-i-preserved : goal.loop-i-preserved
 loop-i-preserved g c =
     let i = c.loop-i.i in
@@ -23,24 +20,21 @@ loop-i-preserved g c =
       drop-set-lt (i + 1) said i c.serve.result (omega arith) ∙ sym (drop-drop 1 i said) ∙ ap (drop 1) c.loop-i.invariant.1 ∙ drop-drop 1 i c.args.answers.now,
     )
 
-pub returns : goal.returns
-returns g c =
+pub returns-clause-promise : goal.returns-clause-promise
+returns-clause-promise g c = λ fresh.
     let m = g.S.Store.meaning in
+    let depth = bits_of c.args.depth in
+    let ledger = opened (m.slots c.args.below) in
     let all : c.loop-i.i ≡ c.min-many.result =
     omega (arith, c.min-many.ensures, c.loop-i.auto.i-end, length-take c.min-many.result c.args.calls.now) in
+    let first = stands_first m depth c.args.below c.new-braid.result c.new-braid.ensures.below c.new-braid.ensures.layer (c.new-braid.ensures.fresh fresh) in
+    let done = subst (λ k. SoFar m depth ledger (length c.args.work.now) c.args.calls.now c.loop-i.answers k
+    c.loop-i.braid c.args.work.now c.loop-i.work) all (c.loop-i.invariant.0 depth ledger first) in
     record {
-      count = c.min-many.ensures;
-      promise = λ fresh.
-          let first = stands_first m (bits_of c.args.depth) c.args.below c.new-braid.result c.new-braid.ensures.below c.new-braid.ensures.layer (c.new-braid.ensures.fresh fresh) in
-          let done = subst (λ k. SoFar m (bits_of c.args.depth) (opened (m.slots c.args.below)) (length c.args.work.now) c.args.calls.now c.loop-i.answers k
-          c.loop-i.braid c.args.work.now c.loop-i.work) all (c.loop-i.invariant.0 (bits_of c.args.depth) (opened (m.slots c.args.below)) first) in
-          record {
-            answers = done.answers;
-            sums = totals_add_up_lem (m.slots c.args.below) _;
-            stands = done.stands;
-            ruled = ruled m (bits_of c.args.depth) _ _ done.stands;
-            closes = closes m g.S.Store.laws (bits_of c.args.depth) _ _ done.stands;
-            worked = done.worked;
-          };
-      kept = subst (λ k. drop k c.loop-i.answers ≡ drop k c.args.answers.now) all c.loop-i.invariant.1;
+      answers = done.answers;
+      sums = totals_add_up_lem (m.slots c.args.below) _;
+      stands = done.stands;
+      ruled = ruled m depth _ _ done.stands;
+      closes = closes m g.S.Store.laws depth _ _ done.stands;
+      worked = done.worked;
     }
