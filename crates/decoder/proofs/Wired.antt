@@ -2,15 +2,14 @@
 use Rattle.std.proofs.Common.{◌≡◌, ℕ, zero, suc, ◌^◌, ◌<◌, ◌≤◌, Bool, true, false, eqb, ltb, List, [], ◌∷◌, map, length, get_or, take, Some, None, Option, refl, arith}
 use Rattle.std.proofs.lemmas.Bool.{and_parts, eqb-true, ltb-true, ne_eqb, or_from}
 use Rattle.wiring.specs.declared.row.Row.{Row}
-use Rattle.wiring.specs.Wiring.{slots_of}
-use Rattle.wiring.specs.Rising.{rising}
+use Rattle.wiring.specs.Rising.{rising, is_row}
 use Rattle.rounds.specs.Rounds.{row_of, floor_of, has, edge}
 use Rattle.rounds.specs.Laws.{Distinct}
 use Rattle.decoder.specs.declared.claims.Claim.{Claim}
 use Rattle.decoder.specs.declared.claims.Claims.{Claims}
 use Rattle.decoder.specs.declared.spans.Ends.{Ends}
 use Rattle.decoder.specs.declared.spans.Spans.{Spans}
-use Rattle.decoder.specs.Limits.{slots_in}
+use Rattle.decoder.specs.Limits.{slots_in, rises}
 use Rattle.decoder.specs.Inputs.{claimant_of, claimants, span_of, spans_in, span_at}
 
 -- A rising row has no slot twice.
@@ -30,30 +29,30 @@ rising_distinct (a ∷ (b ∷ row)) r =
 
 -- The two facts about a row that the decoder stands on, and the one place that knows how rows are made.
 
-row_short : (row : Row) → length (slots_of row) ≤ 3
-row_short row = omega (arith, eqb-true _ _ (and_parts (eqb (length (slots_of row)) 3) (rising (slots_of row)) row.rising).0)
+row_short : (row : Row) → is_row row ≡ true → length row ≤ 3
+row_short row r = omega (arith, eqb-true _ _ (and_parts (eqb (length row) 3) (rising row) r).0)
 
-row_distinct : (row : Row) → Distinct (slots_of row)
-row_distinct row = rising_distinct (slots_of row) (and_parts (eqb (length (slots_of row)) 3) (rising (slots_of row)) row.rising).1
+row_distinct : (row : Row) → is_row row ≡ true → Distinct row
+row_distinct row r = rising_distinct row (and_parts (eqb (length row) 3) (rising row) r).1
 
-in_short : (row : Option Row) → length (slots_in row) ≤ 3
-in_short None = omega arith
-in_short (Some row) = row_short row
+in_short : (row : Option Row) → rises row ≡ true → length (slots_in row) ≤ 3
+in_short None r = omega arith
+in_short (Some row) r = row_short row r
 
-in_distinct : (row : Option Row) → Distinct (slots_in row)
-in_distinct None = tt
-in_distinct (Some row) = row_distinct row
+in_distinct : (row : Option Row) → rises row ≡ true → Distinct (slots_in row)
+in_distinct None r = tt
+in_distinct (Some row) r = row_distinct row r
 
 -- What holds of every entry holds of every claimant, and of nobody.
 
 at_short : (xs : List Claim) (i : ℕ) → length (row_of (map claimant_of xs) i) ≤ 3
 at_short [] i = omega arith
-at_short (x ∷ xs) zero = in_short x.row
+at_short (x ∷ xs) zero = in_short x.row x.rising
 at_short (x ∷ xs) (suc i) = at_short xs i
 
 at_distinct : (xs : List Claim) (i : ℕ) → Distinct (row_of (map claimant_of xs) i)
 at_distinct [] i = tt
-at_distinct (x ∷ xs) zero = in_distinct x.row
+at_distinct (x ∷ xs) zero = in_distinct x.row x.rising
 at_distinct (x ∷ xs) (suc i) = at_distinct xs i
 
 at_floor : (xs : List Claim) (i : ℕ) → floor_of (map claimant_of xs) i ≤ 2 ^ 40

@@ -1,6 +1,6 @@
 // Claimants, for the decoder: up to 1,024, each with a row and a floor, or with no row if it takes no part.
 ghost use Rattle.std.specs.Prelude.{◌≡◌, ◌^◌, ◌≤◌, true, length};
-ghost use Rattle.decoder.specs.Limits.{within};
+ghost use Rattle.decoder.specs.Limits.{rises, within};
 
 use wiring::row::Row;
 
@@ -11,6 +11,7 @@ mod making;
 struct Claim {
     row: Option<Row>,
     floor: u64,
+    ghost rising: { rises row ≡ true },
     ghost reaches: { within row ≡ true },
     ghost small: { floor ≤ 2 ^ 40 },
 }

@@ -2,7 +2,6 @@
 ghost use Rattle.std.specs.Prelude.{◌≡◌, min, map, length, take, drop};
 ghost use Rattle.store.specs.FlatMeaning.{flat_meaning};
 ghost use Rattle.store.specs.Meaning.{Fresh};
-ghost use Rattle.wiring.specs.Wiring.{bits_of};
 ghost use Rattle.ledger.specs.Calls.{asked, told};
 ghost use Rattle.ledger.specs.Promise.{Serves, Promise};
 
@@ -19,7 +18,7 @@ fn serve<S: Store>(braid: &mut Braid<S>, call: &Call, work: &mut [u64]) -> Answe
 {
     match *call {
         Call::Wire { slots } => {
-            let row = Row::from_slice(slots)?;
+            let row = Row::try_from(slots)?;
             Ok(Done::Wired(braid.wire(row)?))
         }
         Call::Add { slot, units } => Ok(Done::Added(braid.add(slot, units)?)),
@@ -41,7 +40,7 @@ pub fn run<S: Store>(
     answers: &mut [Answer],
 ) -> (Braid<S>, usize)
     ensures count { result.1 ≡ min (length calls.now) (length answers.old) }
-    ensures promise { Fresh S.Store.meaning below → Promise S.Store.meaning (bits_of depth) (S.Store.meaning.slots below) (map (asked (length work.old)) (take result.1 calls.now)) (map told (take result.1 answers.new)) result.0 work.old work.new }
+    ensures promise { Fresh S.Store.meaning below → Promise S.Store.meaning depth (S.Store.meaning.slots below) (map (asked (length work.old)) (take result.1 calls.now)) (map told (take result.1 answers.new)) result.0 work.old work.new }
     ensures kept { drop result.1 answers.new ≡ drop result.1 answers.old }
 {
     let mut braid = Braid::new(below, depth);
@@ -62,7 +61,7 @@ pub fn run_on_table<'a>(
     answers: &mut [Answer],
 ) -> (Braid<Flat<'a>>, usize)
     ensures count { result.1 ≡ min (length calls.now) (length answers.old) }
-    ensures promise { Promise flat_meaning (bits_of depth) (min (length table.old) 1024) (map (asked (length work.old)) (take result.1 calls.now)) (map told (take result.1 answers.new)) result.0 work.old work.new }
+    ensures promise { Promise flat_meaning depth (min (length table.old) 1024) (map (asked (length work.old)) (take result.1 calls.now)) (map told (take result.1 answers.new)) result.0 work.old work.new }
     ensures kept { drop result.1 answers.new ≡ drop result.1 answers.old }
 {
     run(Flat::new(table), depth, calls, work, answers)

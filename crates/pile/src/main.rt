@@ -5,7 +5,7 @@
 
 mod words;
 
-use anyhow::anyhow;
+use anyhow::Context;
 use braid::braid::Braid;
 use ledger::calls::{Call, Done};
 use ledger::run::run_on_table;
@@ -41,10 +41,9 @@ fn show_spans<S: Store>(
     rounds: u16,
     work: &mut [u64],
 ) -> anyhow::Result<()> {
-    pile.settle(rounds, work)
-        .map_err(|_| anyhow!("not settled"))?;
+    pile.settle(rounds, work).ok().context("not settled")?;
     for slot in 0..pile.slots() {
-        let Span { low, high } = pile.span(slot).map_err(|_| anyhow!("no span"))?;
+        let Span { low, high } = pile.span(slot).ok().context("no span")?;
         println!(rt; "rounds {rounds}: slot {slot} holds {low} to {high}")?;
     }
     Ok(())
@@ -70,10 +69,10 @@ where
 {
     let mut braid = Braid::new(below, depth);
     for i in 0..slots {
-        let row = Row::new(i, i.saturating_add(1), i.saturating_add(2)).map_err(|_| anyhow!(
-            "no row"
-        ))?;
-        braid.wire(row).map_err(|_| anyhow!("not wired"))?;
+        let row = Row::new(i, i.saturating_add(1), i.saturating_add(2))
+            .ok()
+            .context("no row")?;
+        braid.wire(row).ok().context("not wired")?;
     }
     Ok(braid)
 }
@@ -84,7 +83,7 @@ fn three_braids(rt: &HostRuntime, depth: Depth, work: &mut [u64]) -> anyhow::Res
     let middle = stacked(bottom, depth, 5)?;
     let mut top: Braid<Braid<Braid<Flat>>> = stacked(middle, depth, 3)?;
     for (slot, units) in [(0, 1000), (1, 70), (2, 3)] {
-        top.add(slot, units).map_err(|_| anyhow!("not added"))?;
+        top.add(slot, units).ok().context("not added")?;
     }
     println!(rt; "a pile of three: 1000, 70 and 3 units were added")?;
     for rounds in [0, 1, 2, 12] {
@@ -94,7 +93,7 @@ fn three_braids(rt: &HostRuntime, depth: Depth, work: &mut [u64]) -> anyhow::Res
 }
 
 fn run(rt: &HostRuntime) -> anyhow::Result<()> {
-    let depth = Depth::new(2).map_err(|_| anyhow!("no depth"))?;
+    let depth = Depth::new(2).ok().context("no depth")?;
     let mut work = [0; 7168];
     one_braid(rt, depth, &mut work)?;
     three_braids(rt, depth, &mut work)

@@ -1,6 +1,5 @@
 // How the table of claimants is filled, and how it is read.
 ghost use Rattle.std.specs.Prelude.{◌≡◌, ◌<◌, ◌≤◌, [], ◌∷◌, ◌++◌, length};
-ghost use Rattle.wiring.specs.Wiring.{slots_of};
 ghost use Rattle.rounds.specs.Rounds.{row_of, floor_of, nobody};
 ghost use Rattle.decoder.specs.Limits.{slots_in, reach};
 ghost use Rattle.decoder.specs.Inputs.{claimants, claimant_of, claim_told, grown};
@@ -50,9 +49,9 @@ impl Claims {
 
     // One more claimant, that takes part. It answers the claimant's number.
     pub fn push(&mut self, row: Row, floor: u64) -> Result<u16, Unfit>
-        ensures answer { result ≡ claim_told (claimants self.old) (record { row = slots_of row; floor = floor }) }
+        ensures answer { result ≡ claim_told (claimants self.old) (record { row = row; floor = floor }) }
         ensures grows { claimants self.new
-            ≡ grown result (claimants self.old) (record { row = slots_of row; floor = floor }) }
+            ≡ grown result (claimants self.old) (record { row = row; floor = floor }) }
     {
         if self.count >= ENTRIES {
             return Err(Unfit::Full);

@@ -1,6 +1,5 @@
-use Rattle.std.proofs.Common.{◌≡◌, ◌+◌, ◌<◌, length, drop, sym, refl, ap, ◌∙◌, subst, arith, length-take}
+use Rattle.std.proofs.Common.{◌≡◌, ◌+◌, ◌<◌, length, drop, sym, ap, ◌∙◌, subst, arith, length-take}
 use Rattle.std.proofs.lemmas.List.{drop-drop, drop-set-lt}
-use Rattle.wiring.specs.Wiring.{bits_of}
 use Rattle.ledger.specs.Ledger.{opened}
 use Rattle.ledger.proofs.AddingUp.{totals_add_up_lem}
 use Rattle.ledger.proofs.Ruling.{ruled, closes}
@@ -23,7 +22,7 @@ loop-i-preserved g c =
 pub returns-clause-promise : goal.returns-clause-promise
 returns-clause-promise g c = λ fresh.
     let m = g.S.Store.meaning in
-    let depth = bits_of c.args.depth in
+    let depth = c.args.depth in
     let ledger = opened (m.slots c.args.below) in
     let all : c.loop-i.i ≡ c.min-many.result =
     omega (arith, c.min-many.ensures, c.loop-i.auto.i-end, length-take c.min-many.result c.args.calls.now) in

@@ -1,8 +1,4 @@
-use Rattle.std.proofs.Common.{◌≡◌, ℕ, min, map, length, take, sym, arith, length-take}
-use Rattle.store.specs.FlatMeaning.{flat_meaning}
-use Rattle.wiring.specs.Wiring.{bits_of}
-use Rattle.ledger.specs.Calls.{asked, told}
-use Rattle.ledger.specs.Promise.{Promise}
+use Rattle.std.proofs.Common.{◌≡◌, min, length, take, sym, arith, length-take}
 use Rattle.ledger.proofs.run.run_on_table.Goals as goal
 
 pub returns-clause-promise : goal.returns-clause-promise
