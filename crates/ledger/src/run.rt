@@ -45,7 +45,7 @@ pub fn run<S: Store>(
 {
     let mut braid = Braid::new(below, depth);
     let many = calls.len().min(answers.len());
-    // after a loop over `answers.iter_mut().zip(calls)` a proof knows none of the answers
+    // by index: of a loop over `answers.iter_mut().zip(calls)` no proof knows what it wrote
     for (i, call) in calls[..many].iter().enumerate() {
         answers[i] = serve(&mut braid, call, work);
     }
