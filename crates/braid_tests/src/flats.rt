@@ -9,15 +9,10 @@ use store::store::Store;
 const BEFORE: u64 = 9;
 
 // Of 1,030 numbers the last slot has these units and the others none, and the six behind are as they were.
-fn holds(rt: &impl Abort, table: &[u64], last: u64) {
-    for (i, number) in table.iter().enumerate() {
-        let expected = match i {
-            0..=1022 => 0,
-            1023 => last,
-            _ => BEFORE,
-        };
-        assert!(rt; *number == expected);
-    }
+fn holds(rt: &impl Abort, table: &[u64; 1030], last: u64) {
+    assert!(rt; table[..1023].iter().all(|number| *number == 0));
+    assert_eq!(rt; table[1023], last);
+    assert!(rt; table[1024..] == [BEFORE; 6]);
 }
 
 fn make(rt: &impl Abort, table: &mut [u64]) {

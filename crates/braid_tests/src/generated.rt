@@ -1,5 +1,5 @@
 // Piles of one and two braids, wired and filled from a seed, and told by both accounts.
-use crate::second::{Known, Tier, closed};
+use crate::second::{Known, Slot, Tier, closed};
 use crate::watching::settle;
 use braid::braid::Braid;
 use std::alloc::{AllocError, Global};
@@ -57,63 +57,95 @@ impl Dice {
 const ROUNDS: [u16; 6] = [0, 1, 2, 3, 5, 8];
 
 // How many slots that had run over were found out at the most rounds, and how many stayed open.
-#[derive(Clone, Copy)]
+#[derive(Clone, Copy, Default)]
 struct Seen {
     closed: u32,
     open: u32,
 }
 
-// Three to eight slots on rows of the store below.
-fn wire<S: Store>(
-    rt: &impl Abort,
-    braid: &mut Braid<S>,
-    tier: &mut Tier,
-    dice: &mut Dice,
-    below: u16,
-) -> Result<(), Fail> {
-    for slot in 0..dice.roll(6).saturating_add(3) {
-        let [a, b, c] = dice.row(below);
-        assert_eq!(rt; braid.wire(Row::new(a, b, c)?)?, slot);
-        tier.rows.push([a, b, c])?;
-        tier.totals.push(0)?;
-    }
-    Ok(())
-}
-
-// One addition to thirty.
-fn add<S: Store>(
-    rt: &impl Abort,
-    braid: &mut Braid<S>,
-    tier: &mut Tier,
-    dice: &mut Dice,
-) -> Result<(), Fail> {
-    for _ in 0..=dice.roll(30) {
-        let slot = dice.roll(braid.slots());
-        let n = dice.units();
-        if let Some(total) = tier.totals.get_mut(usize::from(slot)) {
-            *total = total.saturating_add(u64::from(n));
-        }
-        assert_eq!(rt; braid.add(slot, n)?, tier.weight());
-    }
-    assert_eq!(rt; braid.rounds(), 0);
-    Ok(())
-}
-
-// The store tells what the second account knows, and every total lies in its span.
-fn agree<S: Store>(rt: &impl Abort, store: &S, tier: &Tier, known: &[Known]) -> Result<Seen, Fail> {
-    let mut seen = Seen { closed: 0, open: 0 };
-    assert_eq!(rt; usize::from(store.slots()), known.len());
-    for (slot, (known, total)) in (0..store.slots()).zip(known.iter().zip(tier.totals.iter())) {
-        let span = store.span(slot)?;
-        assert_eq!(rt; (span.low, span.high), (known.low, known.high));
-        assert!(rt; span.low <= *total && *total <= span.high);
-        if span.low < span.high {
-            seen.open = seen.open.wrapping_add(1);
-        } else if *total >= tier.modulus {
-            seen.closed = seen.closed.wrapping_add(1);
+impl Seen {
+    fn and(self, other: Seen) -> Seen {
+        Seen {
+            closed: self.closed.wrapping_add(other.closed),
+            open: self.open.wrapping_add(other.open),
         }
     }
-    Ok(seen)
+}
+
+// A braid beside its second account.
+#[derive(Drop)]
+struct Told<S: Store> {
+    braid: Braid<S>,
+    tier: Tier,
+}
+
+impl<S: Store + Drop> Told<S> {
+    // A braid with three to eight slots on rows of the store below.
+    fn wired(rt: &impl Abort, heap: Global, below: S, dice: &mut Dice) -> Result<Told<S>, Fail> {
+        let width = below.slots();
+        let bits = dice.bits();
+        let mut braid = Braid::new(below, Depth::new(bits)?);
+        let mut tier = Tier::new(heap, bits);
+        for slot in 0..dice.roll(6).saturating_add(3) {
+            let [a, b, c] = dice.row(width);
+            assert_eq!(rt; braid.wire(Row::new(a, b, c)?)?, slot);
+            tier.slots.push(Slot {
+                row: [a, b, c],
+                total: 0,
+            })?;
+        }
+        Ok(Told { braid, tier })
+    }
+
+    // One addition to thirty.
+    fn add(&mut self, rt: &impl Abort, dice: &mut Dice) -> Result<(), Fail> {
+        for _ in 0..=dice.roll(30) {
+            let slot = dice.roll(self.braid.slots());
+            let n = dice.units();
+            self.tier.add(usize::from(slot), n);
+            assert_eq!(rt; self.braid.add(slot, n)?, self.tier.weight());
+        }
+        assert_eq!(rt; self.braid.rounds(), 0);
+        Ok(())
+    }
+
+    // The braid tells what the second account knows, and every total lies in its span.
+    fn agree(&self, rt: &impl Abort, known: &[Known]) -> Result<Seen, Fail> {
+        let mut seen = Seen::default();
+        assert_eq!(rt; usize::from(self.braid.slots()), known.len());
+        for (i, (known, slot)) in (0..self.braid.slots()).zip(known.iter().zip(&self.tier.slots)) {
+            let span = self.braid.span(i)?;
+            assert_eq!(rt; (span.low, span.high), (known.low, known.high));
+            assert!(rt; span.low <= slot.total && slot.total <= span.high);
+            if span.low < span.high {
+                seen.open = seen.open.wrapping_add(1);
+            } else if slot.total >= self.tier.modulus {
+                seen.closed = seen.closed.wrapping_add(1);
+            }
+        }
+        Ok(seen)
+    }
+
+    // Twice: fills the braid, and holds it against what is known at rising rounds.
+    fn hold<F: Fn(&Tier, u16) -> Result<Vec<Known>, AllocError>>(
+        &mut self,
+        rt: &impl Abort,
+        dice: &mut Dice,
+        known: F,
+    ) -> Result<Seen, Fail>
+        requires { F.IsAlwaysCallable known }
+    {
+        let mut seen = Seen::default();
+        for _ in 0..2 {
+            self.add(rt, dice)?;
+            self.agree(rt, &known(&self.tier, 0)?)?;
+            for rounds in ROUNDS {
+                settle(rt, &mut self.braid, rounds)?;
+                seen = self.agree(rt, &known(&self.tier, rounds)?)?;
+            }
+        }
+        Ok(seen)
+    }
 }
 
 // What the second account knows of a braid over a table.
@@ -129,69 +161,40 @@ fn over_table(
 
 fn one_braid(rt: &impl Abort, heap: Global, seed: u64) -> Result<Seen, Fail> {
     let mut dice = Dice { seed };
-    let mut seen = Seen { closed: 0, open: 0 };
     let mut table = [5; 8];
     let width = dice.roll(6).min(5) + 3;
-    let bits = dice.bits();
-    let mut tier = Tier::new(heap, bits);
-    let mut braid = Braid::new(
-        Flat::new(&mut table[0..usize::from(width)]),
-        Depth::new(bits)?,
-    );
-    wire(rt, &mut braid, &mut tier, &mut dice, width)?;
-    for _ in 0..2 {
-        add(rt, &mut braid, &mut tier, &mut dice)?;
-        agree(rt, &braid, &tier, &over_table(heap, &tier, width, 0)?)?;
-        for rounds in ROUNDS {
-            settle(rt, &mut braid, rounds)?;
-            seen = agree(rt, &braid, &tier, &over_table(heap, &tier, width, rounds)?)?;
-        }
-    }
-    Ok(seen)
+    let flat = Flat::new(&mut table[..usize::from(width)]);
+    let mut told = Told::wired(rt, heap, flat, &mut dice)?;
+    told.hold(
+        rt,
+        &mut dice,
+        |tier, rounds| over_table(heap, tier, width, rounds),
+    )
 }
 
 fn two_braids(rt: &impl Abort, heap: Global, seed: u64) -> Result<Seen, Fail> {
     let mut dice = Dice { seed };
-    let mut seen = Seen { closed: 0, open: 0 };
     let mut table = [5; 8];
     let width = dice.roll(6).min(5) + 3;
-    let bits = dice.bits();
-    let mut under = Tier::new(heap, bits);
-    let mut lower = Braid::new(
-        Flat::new(&mut table[0..usize::from(width)]),
-        Depth::new(bits)?,
-    );
-    wire(rt, &mut lower, &mut under, &mut dice, width)?;
-    let many = lower.slots();
-    let bits = dice.bits();
-    let mut tier = Tier::new(heap, bits);
-    let mut braid = Braid::new(lower, Depth::new(bits)?);
-    wire(rt, &mut braid, &mut tier, &mut dice, many)?;
-    for _ in 0..2 {
-        add(rt, &mut braid, &mut tier, &mut dice)?;
-        under.totals = tier.sums(heap, many)?;
-        let start = over_table(heap, &under, width, 0)?;
-        agree(rt, &braid, &tier, &tier.known(heap, &start, 0)?)?;
-        for rounds in ROUNDS {
-            settle(rt, &mut braid, rounds)?;
-            let below = over_table(heap, &under, width, rounds)?;
-            seen = agree(rt, &braid, &tier, &tier.known(heap, &below, rounds)?)?;
-        }
-    }
-    Ok(seen)
+    let flat = Flat::new(&mut table[..usize::from(width)]);
+    let Told { braid, tier: under } = Told::wired(rt, heap, flat, &mut dice)?;
+    let many = braid.slots();
+    let mut told = Told::wired(rt, heap, braid, &mut dice)?;
+    told.hold(rt, &mut dice, |tier, rounds| {
+        let under = under.holding(heap, &tier.sums(heap, many)?)?;
+        tier.known(heap, &over_table(heap, &under, width, rounds)?, rounds)
+    })
 }
 
 #[test]
 fn both_accounts_agree(rt: HostRuntime) -> Result<(), Fail> {
-    let mut closed: u32 = 0;
-    let mut open: u32 = 0;
+    let mut seen = Seen::default();
     for seed in 0..300u64 {
         let one = one_braid(&rt, rt.alloc(), seed)?;
         let two = two_braids(&rt, rt.alloc(), seed)?;
-        closed = closed.wrapping_add(one.closed).wrapping_add(two.closed);
-        open = open.wrapping_add(one.open).wrapping_add(two.open);
+        seen = seen.and(one).and(two);
     }
     // both occurred often
-    assert!(rt; closed > 300 && open > 300);
+    assert!(rt; seen.closed > 300 && seen.open > 300);
     Ok(())
 }

@@ -18,9 +18,7 @@ fn no_settling<S: Store>(
     why: Refusal,
 ) {
     assert_eq!(rt; store.settle(rounds, work), Err(why));
-    for number in work.iter() {
-        assert!(rt; *number == WORK);
-    }
+    assert!(rt; work.iter().all(|number| *number == WORK));
 }
 
 // Any store of three slots that nothing was added to.

@@ -8,109 +8,130 @@ pub struct Known {
     pub high: u64,
 }
 
+#[derive(Clone, Copy)]
+pub struct Slot {
+    pub row: [u16; 3],
+    pub total: u64,
+}
+
 #[derive(Drop)]
 pub struct Tier {
     pub modulus: u64,
-    pub rows: Vec<[u16; 3]>,
-    pub totals: Vec<u64>,
-}
-
-fn at(numbers: &[u64], i: usize) -> u64 {
-    numbers.get(i).copied().unwrap_or(0)
-}
-
-// The one of two bounds that says more: of upper bounds the lesser, of lower bounds the greater.
-fn better(up: bool, x: u64, y: u64) -> u64 {
-    if up { x.min(y) } else { x.max(y) }
+    pub slots: Vec<Slot>,
 }
 
 // Totals that are known exactly.
 pub fn closed(heap: Global, totals: &[u64]) -> Result<Vec<Known>, AllocError> {
-    let mut known = Vec::new(heap);
-    for total in totals {
-        known.push(Known {
+    totals
+        .iter()
+        .map(|total| Known {
             low: *total,
             high: *total,
-        })?;
-    }
-    Ok(known)
+        })
+        .collect(heap)
 }
 
 impl Tier {
     pub fn new(heap: Global, bits: u8) -> Tier {
-        let mut modulus: u64 = 1;
-        for _ in 0..bits {
-            modulus = modulus.saturating_mul(2);
-        }
         Tier {
-            modulus,
-            rows: Vec::new(heap),
-            totals: Vec::new(heap),
+            modulus: 2u64.saturating_pow(u32::from(bits)),
+            slots: Vec::new(heap),
         }
+    }
+
+    pub fn add(&mut self, i: usize, n: u32) {
+        if let Some(slot) = self.slots.get_mut(i) {
+            slot.total = slot.total.saturating_add(u64::from(n));
+        }
+    }
+
+    // The same slots, with these totals.
+    pub fn holding(&self, heap: Global, totals: &[u64]) -> Result<Tier, AllocError> {
+        let slots = self
+            .slots
+            .iter()
+            .zip(totals)
+            .map(|(slot, total)| Slot {
+                row: slot.row,
+                total: *total,
+            })
+            .collect(heap)?;
+        Ok(Tier {
+            modulus: self.modulus,
+            slots,
+        })
     }
 
     pub fn weight(&self) -> u64 {
-        let mut sum: u64 = 0;
-        for total in self.totals.iter() {
-            sum = sum.saturating_add(*total);
-        }
-        sum
+        self.slots
+            .iter()
+            .fold(0, |sum: u64, slot| sum.saturating_add(slot.total))
     }
 
-    // How often the counter of slot i has run over.
-    pub fn over(&self, i: usize) -> u64 {
-        at(&self.totals, i) / self.modulus.max(1)
+    // How often the counter of a slot has run over.
+    fn over(&self, slot: &Slot) -> u64 {
+        slot.total / self.modulus.max(1)
     }
 
-    fn row(&self, i: usize) -> [u16; 3] {
-        self.rows.get(i).copied().unwrap_or([0; 3])
+    // What has gone down into a slot of the store below.
+    fn sum(&self, place: u16) -> u64 {
+        self.slots
+            .iter()
+            .filter(|slot| slot.row.contains(&place))
+            .fold(0, |sum: u64, slot| sum.saturating_add(self.over(slot)))
     }
 
     // What has gone down into each of the first slots of the store below.
     pub fn sums(&self, heap: Global, many: u16) -> Result<Vec<u64>, AllocError> {
-        let mut sums = Vec::new(heap);
-        for slot in 0..many {
-            let mut sum: u64 = 0;
-            for i in 0..self.rows.len() {
-                let [a, b, c] = self.row(i);
-                if a == slot || b == slot || c == slot {
-                    sum = sum.saturating_add(self.over(i));
-                }
-            }
-            sums.push(sum)?;
-        }
-        Ok(sums)
+        (0..many).map(|place| self.sum(place)).collect(heap)
     }
 
-    // What slot j told the slot below in the last round, nothing if it has not run over.
-    fn told(&self, sent: &[[u64; 3]], j: usize, slot: u16) -> u64 {
-        if self.over(j) == 0 {
+    // What a slot told the slot below in the last round, nothing if it has not run over.
+    fn told(&self, slot: &Slot, sent: &[u64; 3], place: u16) -> u64 {
+        if self.over(slot) == 0 {
             return 0;
         }
-        let [a, b, c] = self.row(j);
-        let [x, y, z] = sent.get(j).copied().unwrap_or([0; 3]);
-        if a == slot {
-            x
-        } else if b == slot {
-            y
-        } else if c == slot {
-            z
-        } else {
-            0
-        }
+        slot.row
+            .iter()
+            .zip(sent)
+            .find(|(to, _)| **to == place)
+            .map_or(0, |(_, told)| *told)
     }
 
-    // What the slot below leaves to slot i once the others have had theirs, 1 at the least.
-    fn left(&self, below: &[Known], sent: &[[u64; 3]], up: bool, i: usize, slot: u16) -> u64 {
-        let none = Known { low: 0, high: 0 };
-        let known = below.get(usize::from(slot)).copied().unwrap_or(none);
-        let mut left = if up { known.high } else { known.low };
-        for j in 0..self.rows.len() {
-            if j != i {
-                left = left.saturating_sub(self.told(sent, j, slot));
-            }
+    // What the slot below, which has so much, leaves to slot i once the others have had theirs, 1 at the least.
+    fn left(&self, bounds: &[u64], sent: &[[u64; 3]], i: usize, place: u16) -> u64 {
+        let whole = bounds.get(usize::from(place)).copied().unwrap_or(0);
+        self.slots
+            .iter()
+            .zip(sent)
+            .enumerate()
+            .filter(|(j, _)| *j != i)
+            .fold(
+                whole,
+                |left, (_, (slot, sent))| left.saturating_sub(self.told(slot, sent, place)),
+            )
+            .max(1)
+    }
+
+    // A round over bounds of one kind: the new bound of each slot, and what it tells each slot of its row, which
+    // is the better bound of the other two.
+    fn round<F: Fn(u64, u64) -> u64>(
+        &self,
+        heap: Global,
+        bounds: &[u64],
+        sent: &[[u64; 3]],
+        better: F,
+    ) -> Result<(Vec<u64>, Vec<[u64; 3]>), AllocError>
+        requires { F.IsAlwaysCallable better }
+    {
+        let mut found = Vec::new(heap);
+        let mut next = Vec::new(heap);
+        for (i, slot) in self.slots.iter().enumerate() {
+            let [x, y, z] = slot.row.map(|place| self.left(bounds, sent, i, place));
+            found.push(better(x, better(y, z)))?;
+            next.push([better(y, z), better(x, z), better(x, y)])?;
         }
-        left.max(1)
+        Ok((found, next))
     }
 
     // What is known of every slot at so many rounds, where so much is known of the slots below.
@@ -120,45 +141,34 @@ impl Tier {
         below: &[Known],
         rounds: u16,
     ) -> Result<Vec<Known>, AllocError> {
-        let many = self.rows.len();
+        let many = self.slots.len();
+        let least: Vec<u64> = below.iter().map(|known| known.low).collect(heap)?;
+        let most: Vec<u64> = below.iter().map(|known| known.high).collect(heap)?;
         let mut sent = vec![in heap; [1; 3]; many]?;
         let mut lows: Vec<u64> = vec![in heap; 1; many]?;
         let mut highs: Vec<u64> = vec![in heap; u64::MAX; many]?;
         for round in 1..=rounds {
-            let up = round % 2 == 1;
-            let mut next = Vec::new(heap);
-            let mut bounds = Vec::new(heap);
-            for i in 0..many {
-                let [a, b, c] = self.row(i);
-                let x = self.left(below, &sent, up, i, a);
-                let y = self.left(below, &sent, up, i, b);
-                let z = self.left(below, &sent, up, i, c);
-                next.push([better(up, y, z), better(up, x, z), better(up, x, y)])?;
-                bounds.push(better(up, x, better(up, y, z)))?;
-            }
-            sent = next;
-            if up {
-                highs = bounds;
+            if round % 2 == 1 {
+                (highs, sent) = self.round(heap, &most, &sent, |x, y| x.min(y))?;
             } else {
-                lows = bounds;
+                (lows, sent) = self.round(heap, &least, &sent, |x, y| x.max(y))?;
             }
         }
-        let mut known = Vec::new(heap);
-        for i in 0..many {
-            let part = at(&self.totals, i) % self.modulus.max(1);
-            let raised = self.over(i) > 0;
-            let low = if raised { at(&lows, i) } else { 0 };
-            let high = if raised { at(&highs, i) } else { 0 };
-            known.push(Known {
-                low: self.holds(part, low),
-                high: self.holds(part, high),
-            })?;
-        }
-        Ok(known)
+        self.slots
+            .iter()
+            .zip(lows.iter().zip(&highs))
+            .map(|(slot, (low, high))| Known {
+                low: self.holds(slot, *low),
+                high: self.holds(slot, *high),
+            })
+            .collect(heap)
     }
 
-    fn holds(&self, part: u64, over: u64) -> u64 {
-        let most = self.weight();
-        most.min(part.saturating_add(self.modulus.saturating_mul(over)))
+    // What a slot holds that has run over so often, if it has at all.
+    fn holds(&self, slot: &Slot, times: u64) -> u64 {
+        let times = if self.over(slot) > 0 { times } else { 0 };
+        let part = slot.total % self.modulus.max(1);
+        part.saturating_add(self.modulus.saturating_mul(times))
+            .min(self.weight())
     }
 }

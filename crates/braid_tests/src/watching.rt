@@ -9,10 +9,9 @@ pub const WORK: u64 = 9;
 // The store has these spans, low and high of each slot, at the rounds that it is settled at.
 pub fn spans_are<S: Store>(rt: &impl Abort, store: &S, spans: &[(u64, u64)]) -> Result<(), Fail> {
     assert_eq!(rt; usize::from(store.slots()), spans.len());
-    for (slot, (low, high)) in (0..store.slots()).zip(spans.iter()) {
+    for (slot, expected) in (0..store.slots()).zip(spans) {
         let span = store.span(slot)?;
-        assert_eq!(rt; span.low, *low);
-        assert_eq!(rt; span.high, *high);
+        assert_eq!(rt; (span.low, span.high), *expected);
     }
     Ok(())
 }
@@ -22,9 +21,7 @@ pub fn settle<S: Store>(rt: &impl Abort, store: &mut S, rounds: u16) -> Result<(
     let mut work = [WORK; 7170];
     assert_eq!(rt; store.settle(rounds, &mut work)?, rounds);
     assert_eq!(rt; store.rounds(), rounds);
-    for (k, number) in work.iter().enumerate() {
-        let expected = if k < 7168 { 0 } else { WORK };
-        assert!(rt; *number == expected);
-    }
+    assert!(rt; work.iter().take(7168).all(|number| *number == 0));
+    assert!(rt; work.iter().skip(7168).all(|number| *number == WORK));
     Ok(())
 }

@@ -1,4 +1,5 @@
 pub mod Lines
+pub mod Answering
 pub mod Standing
 pub mod Working
 pub mod Running

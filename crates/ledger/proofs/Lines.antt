@@ -1,6 +1,6 @@
 -- Lines of a ledger: what one more line, or units more in one, do to the rows and the totals.
-use Rattle.std.proofs.Common.{◌≡◌, ℕ, zero, suc, Bool, true, false, cond, ltb, List, [], ◌∷◌, map, Ok, Err, Result, refl, ap, arith}
-use Rattle.std.proofs.lemmas.Bool.{and_from, and_parts, lt-ltb, ltb-true, both_ways}
+use Rattle.std.proofs.Common.{◌≡◌, ℕ, zero, suc, true, false, ltb, List, [], ◌∷◌, map, Ok, Result, refl, ap, arith}
+use Rattle.std.proofs.lemmas.Bool.{and_from, and_parts, lt-ltb, ltb-true, both_ways, cond_both}
 use Rattle.store.specs.Meaning.{Within}
 use Rattle.store.specs.Totals.{more}
 use Rattle.wiring.specs.Rising.{is_row}
@@ -32,8 +32,7 @@ fits_not N row h w = both_ways (fits N row) h (within_fits N row w)
 
 -- slots of which a row was made are one
 pub made_row : (slots made : List ℕ) → ◌≡◌ {A = Result (List ℕ) ℕ} (Ok made) (row_from slots) → (is_row slots ≡ true) × (made ≡ slots)
-made_row slots made is = at (is_row slots) refl is
-  where
-    at : (t : Bool) → is_row slots ≡ t → ◌≡◌ {A = Result (List ℕ) ℕ} (Ok made) (cond t (Ok slots) (Err 5)) → (is_row slots ≡ true) × (made ≡ slots)
-    at true one e = (one, (cc))
-    at false one e = let z : ◌≡◌ {A = ℕ} 0 1 = cc in absurd (omega arith)
+made_row slots made =
+    cond_both (is_row slots) _ _ (λ r. ◌≡◌ {A = Result (List ℕ) ℕ} (Ok made) r → (is_row slots ≡ true) × (made ≡ slots))
+    (λ one e. (one, (cc)))
+    (λ none e. let z : ◌≡◌ {A = ℕ} 0 1 = cc in absurd (omega arith))

@@ -1,5 +1,5 @@
 -- What the calls and answers of a list stand for in the ledger, and the number of each denial.
-use Rattle.std.specs.Prelude.{ℕ, min}
+use Rattle.std.specs.Prelude.{ℕ, min, Ok, Err, Result}
 use Rattle.braid.specs.Wires as braid
 use Rattle.store.specs.Refusals as store
 use Rattle.wiring.specs.Wiring as wiring
@@ -7,8 +7,8 @@ use Rattle.ledger.specs.declared.calls.Call.{Call}
 use Rattle.ledger.specs.declared.calls.Call.TheVariants.{Wire, Add, Settle}
 use Rattle.ledger.specs.declared.calls.Denial.{Denial}
 use Rattle.ledger.specs.declared.calls.Denial.TheVariants.{Row, Braid, Store}
-use Rattle.ledger.specs.declared.calls.Answer.{Answer}
-use Rattle.ledger.specs.declared.calls.Answer.TheVariants.{Wired, Added, Settled, Denied}
+use Rattle.ledger.specs.declared.calls.Done.{Done}
+use Rattle.ledger.specs.declared.calls.Done.TheVariants.{Wired, Added, Settled}
 use Rattle.ledger.specs.Ledger.{Asked, wire, add, settle, Said, wired, added, settled, denied}
 
 -- a call that may use a work area of `area` numbers
@@ -23,8 +23,8 @@ number (Row why) = wiring.number why
 number (Braid why) = braid.number why
 number (Store why) = store.number why
 
-abbrev pub told : Answer → Said
-told (Wired slot) = wired slot
-told (Added weight) = added weight
-told (Settled rounds) = settled rounds
-told (Denied why) = denied (number why)
+abbrev pub told : Result Done Denial → Said
+told (Ok (Wired slot)) = wired slot
+told (Ok (Added weight)) = added weight
+told (Ok (Settled rounds)) = settled rounds
+told (Err why) = denied (number why)

@@ -4,7 +4,7 @@ use Rattle.rounds.specs.Laws.{Closed, Knot, parties}
 use Rattle.braid.specs.declared.braid.Braid.{Braid}
 use Rattle.braid.specs.BraidMeaning as counters
 use Rattle.store.specs.Meaning.{Meaning}
-use Rattle.ledger.specs.Ledger.{Asked, Said, wired, added, settled, denied, Ledger, rows, totals, opened, answers, closing}
+use Rattle.ledger.specs.Ledger.{Asked, Said, wired, added, settled, denied, Ledger, rows, totals, opened, answer, after, answers, closing}
 use Rattle.ledger.specs.Rules as rules
 use Rattle.ledger.specs.Runs.{AddsUp}
 
@@ -57,3 +57,13 @@ pub record Promise {S : Type 0} (m : Meaning S) (depth beneath : ℕ) (calls : L
   pub ruled : Ruled m depth (closing (opened beneath) calls) s
   pub closes : Closes m depth (closing (opened beneath) calls) s
   pub worked : Worked said work left
+
+-- one call: it is answered as the ledger answers it, and the braid is what the ledger says after it
+pub record Served {S : Type 0} (m : Meaning S) (depth : ℕ) (L : Ledger) (call : Asked) (said : Said) (s : Braid S) (work left : List ℕ) : Type 0 where
+  pub answers : said ≡ answer L call
+  pub stands : Stands m depth (after L call) s
+  pub worked : Worked (said ∷ []) work left
+
+-- so it is for whatever ledger the braid stood before the call
+abbrev pub Serves : {S : Type 0} → Meaning S → Braid S → Asked → Said → Braid S → List ℕ → List ℕ → Type 0
+Serves m s call said t work left = (depth : ℕ) (L : Ledger) → Stands m depth L s → Served m depth L call said t work left

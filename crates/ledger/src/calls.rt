@@ -6,7 +6,7 @@ use braid::refusal::Refusal as BraidRefusal;
 use store::refusal::Refusal as StoreRefusal;
 use wiring::refusal::Refusal as RowRefusal;
 
-#[derive(Clone, Copy)]
+#[derive(Clone, Copy, PartialEq, Eq, Debug)]
 pub enum Call<'a> {
     // one slot more, on a row of these slots of the store below
     Wire { slots: &'a [u16] },
@@ -15,24 +15,25 @@ pub enum Call<'a> {
     Settle { rounds: u16, room: usize },
 }
 
-// Why a call was declined, and by whom.
-#[derive(Clone, Copy)]
-pub enum Denial {
-    Row(RowRefusal),
-    Braid(BraidRefusal),
-    Store(StoreRefusal),
-}
-
-#[derive(Clone, Copy)]
-pub enum Answer {
+#[derive(Clone, Copy, PartialEq, Eq, Debug)]
+pub enum Done {
     // the new slot's number
     Wired(u16),
     // the new weight
     Added(u64),
     // the rounds
     Settled(u16),
-    Denied(Denial),
 }
+
+// Why a call was declined, and by whom.
+#[derive(Clone, Copy, PartialEq, Eq, Debug)]
+pub enum Denial {
+    Row(RowRefusal),
+    Braid(BraidRefusal),
+    Store(StoreRefusal),
+}
+
+pub type Answer = Result<Done, Denial>;
 
 impl Denial {
     // The number under which people know the refusal, whoever it comes from.
@@ -44,5 +45,35 @@ impl Denial {
             Denial::Braid(why) => why.number(),
             Denial::Store(why) => why.number(),
         }
+    }
+}
+
+impl From<RowRefusal> for Denial {
+    ghost use Rattle.ledger.specs.declared.calls.Denial.TheVariants.{Row};
+
+    ghost from_gives = { λ why denial. denial ≡ Row why };
+
+    fn from(why: RowRefusal) -> Self {
+        Self::Row(why)
+    }
+}
+
+impl From<BraidRefusal> for Denial {
+    ghost use Rattle.ledger.specs.declared.calls.Denial.TheVariants.{Braid};
+
+    ghost from_gives = { λ why denial. denial ≡ Braid why };
+
+    fn from(why: BraidRefusal) -> Self {
+        Self::Braid(why)
+    }
+}
+
+impl From<StoreRefusal> for Denial {
+    ghost use Rattle.ledger.specs.declared.calls.Denial.TheVariants.{Store};
+
+    ghost from_gives = { λ why denial. denial ≡ Store why };
+
+    fn from(why: StoreRefusal) -> Self {
+        Self::Store(why)
     }
 }

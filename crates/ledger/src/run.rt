@@ -1,58 +1,30 @@
 // Runs a list of calls on a braid.
-ghost use Rattle.std.specs.Prelude.{◌≡◌, ℕ, min, [], ◌∷◌, map, length, take, drop};
+ghost use Rattle.std.specs.Prelude.{◌≡◌, min, map, length, take, drop};
 ghost use Rattle.store.specs.FlatMeaning.{flat_meaning};
 ghost use Rattle.store.specs.Meaning.{Fresh};
 ghost use Rattle.ledger.specs.Calls.{asked, told};
-ghost use Rattle.ledger.specs.Ledger.{Ledger, wire, add, settle, answer, after};
-ghost use Rattle.ledger.specs.Promise.{Stands, Worked, Promise};
+ghost use Rattle.ledger.specs.Promise.{Serves, Promise};
 
-use crate::calls::{Answer, Call, Denial};
+use crate::calls::{Answer, Call, Done};
 use braid::braid::Braid;
 use store::flat::Flat;
 use store::store::Store;
 use wiring::depth::Depth;
 use wiring::row::Row;
 
-// A slot more; slots that make no row are declined first.
-fn wire_one<S: Store>(braid: &mut Braid<S>, slots: &[u16]) -> Answer
-    ensures { (depth : ℕ) (L : Ledger) → Stands S.Store.meaning depth L braid.old → (told result ≡ answer L (wire slots.now)) × Stands S.Store.meaning depth (after L (wire slots.now)) braid.new }
+// Does one call; slots that make no row are declined before the braid sees them.
+fn serve<S: Store>(braid: &mut Braid<S>, call: &Call, work: &mut [u64]) -> Answer
+    ensures { Serves S.Store.meaning braid.old (asked (length work.old) call.now) (told result) braid.new work.old work.new }
 {
-    match Row::try_from(slots) {
-        Ok(row) => match braid.wire(row) {
-            Ok(slot) => Answer::Wired(slot),
-            Err(why) => Answer::Denied(Denial::Braid(why)),
-        },
-        Err(why) => Answer::Denied(Denial::Row(why)),
-    }
-}
-
-fn add_one<S: Store>(braid: &mut Braid<S>, slot: u16, units: u32) -> Answer
-    ensures { (depth : ℕ) (L : Ledger) → Stands S.Store.meaning depth L braid.old → (told result ≡ answer L (add slot units)) × Stands S.Store.meaning depth (after L (add slot units)) braid.new }
-{
-    match braid.add(slot, units) {
-        Ok(weight) => Answer::Added(weight),
-        Err(why) => Answer::Denied(Denial::Store(why)),
-    }
-}
-
-fn settle_one<S: Store>(braid: &mut Braid<S>, rounds: u16, work: &mut [u64]) -> Answer
-    ensures told { (depth : ℕ) (L : Ledger) → Stands S.Store.meaning depth L braid.old → (told result ≡ answer L (settle rounds (length work.old))) × Stands S.Store.meaning depth (after L (settle rounds (length work.old))) braid.new × Worked (told result ∷ []) work.old work.new }
-{
-    match braid.settle(rounds, work) {
-        Ok(rounds) => Answer::Settled(rounds),
-        Err(why) => Answer::Denied(Denial::Store(why)),
-    }
-}
-
-fn one<S: Store>(braid: &mut Braid<S>, call: &Call, work: &mut [u64]) -> Answer
-    ensures { (depth : ℕ) (L : Ledger) → Stands S.Store.meaning depth L braid.old → (told result ≡ answer L (asked (length work.old) call.now)) × Stands S.Store.meaning depth (after L (asked (length work.old) call.now)) braid.new × Worked (told result ∷ []) work.old work.new }
-{
-    match call {
-        Call::Wire { slots } => wire_one(braid, slots),
-        Call::Add { slot, units } => add_one(braid, *slot, *units),
+    match *call {
+        Call::Wire { slots } => {
+            let row = Row::try_from(slots)?;
+            Ok(Done::Wired(braid.wire(row)?))
+        }
+        Call::Add { slot, units } => Ok(Done::Added(braid.add(slot, units)?)),
         Call::Settle { rounds, room } => {
-            let many = work.len().min(*room);
-            settle_one(braid, *rounds, &mut work[0..many])
+            let many = work.len().min(room);
+            Ok(Done::Settled(braid.settle(rounds, &mut work[..many])?))
         }
     }
 }
@@ -73,8 +45,9 @@ pub fn run<S: Store>(
 {
     let mut braid = Braid::new(below, depth);
     let many = calls.len().min(answers.len());
-    for i in 0..many {
-        answers[i] = one(&mut braid, &calls[i], work);
+    // by index: of a loop over `answers.iter_mut().zip(calls)` no proof knows what it wrote
+    for (i, call) in calls[..many].iter().enumerate() {
+        answers[i] = serve(&mut braid, call, work);
     }
     (braid, many)
 }

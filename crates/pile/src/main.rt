@@ -5,10 +5,11 @@
 
 mod words;
 
-use anyhow::anyhow;
+use anyhow::Context;
 use braid::braid::Braid;
-use ledger::calls::{Answer, Call};
+use ledger::calls::{Call, Done};
 use ledger::run::run_on_table;
+use rounds::span::Span;
 use store::flat::Flat;
 use store::store::Store;
 use wiring::depth::Depth;
@@ -40,15 +41,9 @@ fn show_spans<S: Store>(
     rounds: u16,
     work: &mut [u64],
 ) -> anyhow::Result<()> {
-    if pile.settle(rounds, work).is_err() {
-        return Err(anyhow!("not settled"));
-    }
+    pile.settle(rounds, work).ok().context("not settled")?;
     for slot in 0..pile.slots() {
-        let Ok(span) = pile.span(slot) else {
-            return Err(anyhow!("no span"));
-        };
-        let low = span.low;
-        let high = span.high;
+        let Span { low, high } = pile.span(slot).ok().context("no span")?;
         println!(rt; "rounds {rounds}: slot {slot} holds {low} to {high}")?;
     }
     Ok(())
@@ -56,13 +51,10 @@ fn show_spans<S: Store>(
 
 fn one_braid(rt: &HostRuntime, depth: Depth, work: &mut [u64]) -> anyhow::Result<()> {
     let mut table = [0; 6];
-    let mut answers = [Answer::Settled(0); 10];
+    let mut answers = [Ok(Done::Settled(0)); 10];
     let (mut pile, _) = run_on_table(&mut table, depth, &CALLS, work, &mut answers);
-    for (call, answer) in CALLS.iter().zip(answers.iter()) {
-        rt.println(Told {
-            call: *call,
-            answer: *answer,
-        })?;
+    for (call, answer) in CALLS.iter().zip(&answers) {
+        rt.println(Told { call, answer })?;
     }
     for rounds in 0..4 {
         show_spans(rt, &mut pile, rounds, work)?;
@@ -77,12 +69,10 @@ where
 {
     let mut braid = Braid::new(below, depth);
     for i in 0..slots {
-        let Ok(row) = Row::new(i, i.saturating_add(1), i.saturating_add(2)) else {
-            return Err(anyhow!("no row"));
-        };
-        if braid.wire(row).is_err() {
-            return Err(anyhow!("not wired"));
-        }
+        let row = Row::new(i, i.saturating_add(1), i.saturating_add(2))
+            .ok()
+            .context("no row")?;
+        braid.wire(row).ok().context("not wired")?;
     }
     Ok(braid)
 }
@@ -93,9 +83,7 @@ fn three_braids(rt: &HostRuntime, depth: Depth, work: &mut [u64]) -> anyhow::Res
     let middle = stacked(bottom, depth, 5)?;
     let mut top: Braid<Braid<Braid<Flat>>> = stacked(middle, depth, 3)?;
     for (slot, units) in [(0, 1000), (1, 70), (2, 3)] {
-        if top.add(slot, units).is_err() {
-            return Err(anyhow!("not added"));
-        }
+        top.add(slot, units).ok().context("not added")?;
     }
     println!(rt; "a pile of three: 1000, 70 and 3 units were added")?;
     for rounds in [0, 1, 2, 12] {
@@ -105,9 +93,7 @@ fn three_braids(rt: &HostRuntime, depth: Depth, work: &mut [u64]) -> anyhow::Res
 }
 
 fn run(rt: &HostRuntime) -> anyhow::Result<()> {
-    let Ok(depth) = Depth::new(2) else {
-        return Err(anyhow!("no depth"));
-    };
+    let depth = Depth::new(2).ok().context("no depth")?;
     let mut work = [0; 7168];
     one_braid(rt, depth, &mut work)?;
     three_braids(rt, depth, &mut work)

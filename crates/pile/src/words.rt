@@ -1,14 +1,14 @@
 // A call and its answer, in words.
-use ledger::calls::{Answer, Call};
+use ledger::calls::{Answer, Call, Done};
 use std::fmt;
 
 #[derive(Clone, Copy)]
 pub struct Told<'a> {
-    pub call: Call<'a>,
-    pub answer: Answer,
+    pub call: &'a Call<'a>,
+    pub answer: &'a Answer,
 }
 
-impl<'a> fmt::Display for Told<'a> {
+impl fmt::Display for Told<'_> {
     fn fmt<W: fmt::Write>(&self, f: &mut fmt::Formatter<W>) -> fmt::Result {
         match self.call {
             Call::Wire { slots } => write!(f, "wire on {slots:?}: ")?,
@@ -19,13 +19,10 @@ impl<'a> fmt::Display for Told<'a> {
             )?,
         }
         match self.answer {
-            Answer::Wired(slot) => write!(f, "slot {slot}"),
-            Answer::Added(weight) => write!(f, "weight {weight}"),
-            Answer::Settled(rounds) => write!(f, "settled at {rounds}"),
-            Answer::Denied(why) => {
-                let number = why.number();
-                write!(f, "declined with {number}")
-            }
+            Ok(Done::Wired(slot)) => write!(f, "slot {slot}"),
+            Ok(Done::Added(weight)) => write!(f, "weight {weight}"),
+            Ok(Done::Settled(rounds)) => write!(f, "settled at {rounds}"),
+            Err(why) => write!(f, "declined with {}", why.number()),
         }
     }
 }
