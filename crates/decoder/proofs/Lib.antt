@@ -1,8 +1,5 @@
-pub mod Entries
+pub mod Messages
 pub mod Wired
-pub mod Places
-pub mod Sending
-pub mod Gathering
-pub mod Filing
-pub mod Turning
+pub mod Sums
+pub mod Saying
 pub mod Stepping

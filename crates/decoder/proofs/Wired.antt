@@ -1,11 +1,10 @@
--- What the rounds take from the types of their inputs: short rows with no slot twice, and small floors and spans.
-use Rattle.std.proofs.Common.{◌≡◌, ℕ, zero, suc, ◌^◌, ◌<◌, ◌≤◌, Bool, true, false, eqb, ltb, List, [], ◌∷◌, map, length, get_or, take, Some, None, Option, refl, arith}
-use Rattle.std.proofs.lemmas.Bool.{and_parts, eqb-true, ltb-true, ne_eqb, or_from}
-use Rattle.wiring.specs.declared.row.Row.{Row}
-use Rattle.wiring.specs.Wiring.{slots_of}
-use Rattle.wiring.specs.Rising.{rising}
-use Rattle.rounds.specs.Rounds.{row_of, floor_of, has, edge}
-use Rattle.rounds.specs.Laws.{Distinct}
+-- What the rounds take from the types of their inputs: rows of three slots that rise, and small floors and spans.
+use Rattle.std.proofs.Common.{◌≡◌, ℕ, zero, suc, ◌^◌, ◌<◌, ◌≤◌, Bool, true, false, eqb, ltb, List, [], ◌∷◌, map, length, get_or, Some, sym, refl, ap, ◌∙◌, arith}
+use Rattle.std.proofs.lemmas.Bool.{and_parts, eqb-true, ltb-true}
+use Rattle.std.proofs.lemmas.List.{get_or-map, length-map}
+use Rattle.wiring.specs.Rising.{rising, is_row}
+use Rattle.rounds.specs.Rounds.{Claimant, nobody, row_of, floor_of, besides, edge, odd, message}
+use Rattle.rounds.proofs.Tightest.{tightest_most}
 use Rattle.decoder.specs.declared.claims.Claim.{Claim}
 use Rattle.decoder.specs.declared.claims.Claims.{Claims}
 use Rattle.decoder.specs.declared.spans.Ends.{Ends}
@@ -13,48 +12,7 @@ use Rattle.decoder.specs.declared.spans.Spans.{Spans}
 use Rattle.decoder.specs.Limits.{slots_in}
 use Rattle.decoder.specs.Inputs.{claimant_of, claimants, span_of, spans_in, span_at}
 
--- A rising row has no slot twice.
-
-above : (a b : ℕ) (row : List ℕ) → a < b → rising (b ∷ row) ≡ true → has a (b ∷ row) ≡ false
-above a b [] lt r = or_from (eqb a b) false (ne_eqb a b (omega arith)) refl
-above a b (c ∷ row) lt r =
-    let p = and_parts (ltb b c) (rising (c ∷ row)) r in
-    or_from (eqb a b) (has a (c ∷ row)) (ne_eqb a b (omega arith)) (above a c row (omega (arith, ltb-true b c p.0)) p.1)
-
-rising_distinct : (row : List ℕ) → rising row ≡ true → Distinct row
-rising_distinct [] r = tt
-rising_distinct (a ∷ []) r = (refl, tt)
-rising_distinct (a ∷ (b ∷ row)) r =
-    let p = and_parts (ltb a b) (rising (b ∷ row)) r in
-    (above a b row (ltb-true a b p.0) p.1, rising_distinct (b ∷ row) p.1)
-
--- The two facts about a row that the decoder stands on, and the one place that knows how rows are made.
-
-row_short : (row : Row) → length (slots_of row) ≤ 3
-row_short row = omega (arith, eqb-true _ _ (and_parts (eqb (length (slots_of row)) 3) (rising (slots_of row)) row.rising).0)
-
-row_distinct : (row : Row) → Distinct (slots_of row)
-row_distinct row = rising_distinct (slots_of row) (and_parts (eqb (length (slots_of row)) 3) (rising (slots_of row)) row.rising).1
-
-in_short : (row : Option Row) → length (slots_in row) ≤ 3
-in_short None = omega arith
-in_short (Some row) = row_short row
-
-in_distinct : (row : Option Row) → Distinct (slots_in row)
-in_distinct None = tt
-in_distinct (Some row) = row_distinct row
-
 -- What holds of every entry holds of every claimant, and of nobody.
-
-at_short : (xs : List Claim) (i : ℕ) → length (row_of (map claimant_of xs) i) ≤ 3
-at_short [] i = omega arith
-at_short (x ∷ xs) zero = in_short x.row
-at_short (x ∷ xs) (suc i) = at_short xs i
-
-at_distinct : (xs : List Claim) (i : ℕ) → Distinct (row_of (map claimant_of xs) i)
-at_distinct [] i = tt
-at_distinct (x ∷ xs) zero = in_distinct x.row
-at_distinct (x ∷ xs) (suc i) = at_distinct xs i
 
 at_floor : (xs : List Claim) (i : ℕ) → floor_of (map claimant_of xs) i ≤ 2 ^ 40
 at_floor [] i = omega arith
@@ -72,19 +30,48 @@ at_high (x ∷ xs) zero = x.high_small
 at_high (x ∷ xs) (suc s) = at_high xs s
 
 module _ (claims : Claims) where
-  pub rows_short : (i : ℕ) → length (row_of (claimants claims) i) ≤ 3
+  floors_small : (i : ℕ) → floor_of (claimants claims) i ≤ 2 ^ 40
   unfolding claimants
-  rows_short = at_short (take claims.count claims.entries)
+  floors_small = at_floor claims.entries.items
 
-  pub rows_distinct : (i : ℕ) → Distinct (row_of (claimants claims) i)
+  pub claims_many : length (claimants claims) ≡ length claims.entries.items
   unfolding claimants
-  rows_distinct = at_distinct (take claims.count claims.entries)
+  claims_many = length-map claims.entries.items claimant_of
 
-  pub floors_small : (i : ℕ) → floor_of (claimants claims) i ≤ 2 ^ 40
-  unfolding claimants
-  floors_small = at_floor (take claims.count claims.entries)
+  -- The entry x that is read at i is claimant i.
+  module _ (xs : List Claim) (i : ℕ) (x : Claim) (same : xs ≡ claims.entries.items) (lt : i < length xs) (is : x ≡ get_or xs i x) where
+    claim_is : get_or (claimants claims) i nobody ≡ claimant_of x
+    unfolding claimants
+    claim_is = rw (← same) (get_or-map claimant_of xs i x nobody lt ∙ ap claimant_of (sym is))
 
-pub edges_small : (spans : Spans) (up : Bool) (s : ℕ) → edge up (span_at spans s) ≤ 2 ^ 40
+    pub row_is : row_of (claimants claims) i ≡ slots_in x.row
+    row_is = ap (λ (c : Claimant). c.row) claim_is
+
+    pub floor_is : floor_of (claimants claims) i ≡ x.floor
+    floor_is = ap (λ (c : Claimant). c.floor) claim_is
+
+edges_small : (spans : Spans) (up : Bool) (s : ℕ) → edge up (span_at spans s) ≤ 2 ^ 40
 unfolding spans_in
-edges_small spans true s = at_high (take spans.count spans.entries) s
-edges_small spans false s = at_low (take spans.count spans.entries) s
+edges_small spans true s = at_high spans.entries.items s
+edges_small spans false s = at_low spans.entries.items s
+
+-- So no message is so large that a sum of them could wrap.
+pub message_small : (claims : Claims) (spans : Spans) (t i s : ℕ) → message (claimants claims) (span_at spans) t i s ≤ 2 ^ 40
+message_small claims spans zero i s = floors_small claims i
+message_small claims spans (suc t) i s = tightest_most (odd (suc t)) _ (2 ^ 40) (besides s (row_of (claimants claims) i))
+    (λ a _. omega (arith, floors_small claims i, edges_small spans (odd (suc t)) a))
+
+-- A row is three slots that rise.
+pub row_three : (row : List ℕ) → is_row row ≡ true → (a : ℕ) × (b : ℕ) × (c : ℕ) × (row ≡ a ∷ (b ∷ (c ∷ []))) × (a < b) × (b < c)
+row_three row r =
+    let p = and_parts (eqb (length row) 3) (rising row) r in
+    three row (eqb-true (length row) 3 p.0) p.1
+  where
+    three : (xs : List ℕ) → length xs ≡ 3 → rising xs ≡ true → (a : ℕ) × (b : ℕ) × (c : ℕ) × (xs ≡ a ∷ (b ∷ (c ∷ []))) × (a < b) × (b < c)
+    three [] l h = absurd (omega arith)
+    three (a ∷ []) l h = absurd (omega arith)
+    three (a ∷ (b ∷ [])) l h = absurd (omega arith)
+    three (a ∷ (b ∷ (c ∷ []))) l h =
+        let p = and_parts (ltb a b) (rising (b ∷ (c ∷ []))) h in
+        (a, b, c, refl, ltb-true a b p.0, ltb-true b c (and_parts (ltb b c) true p.1).0)
+    three (a ∷ (b ∷ (c ∷ (d ∷ xs)))) l h = absurd (omega arith)

@@ -2,26 +2,27 @@
 // What it needs of claimants and spans is the invariant of their types, so a call asks nothing of its caller.
 #![tactic(auto)]
 
-ghost use Rattle.std.specs.Prelude.{◌≡◌, true, false, length, is_ok};
+ghost use Rattle.std.specs.Prelude.{◌≡◌, ℕ, ◌<◌, ◌≤◌, true, false, length, is_ok, slice_index};
+ghost use Rattle.rounds.specs.Rounds.{Low, High};
 ghost use Rattle.decoder.specs.Inputs.{claimants, span_at};
-ghost use Rattle.decoder.specs.Decoding.{told, answer, Decoded};
+ghost use Rattle.decoder.specs.Decoding.{told, answer, Tabled, Decoded};
 
-mod answering;
 pub mod claims;
+mod entries;
 mod limits;
 pub mod refusal;
-mod replying;
+mod round;
 mod running;
 pub mod spans;
 pub mod unfit;
 pub mod work;
 
 use crate::claims::Claims;
-use crate::limits::MESSAGES;
+use crate::limits::{ENTRIES, PLACES};
 use crate::refusal::Refusal;
 use crate::running::run;
 use crate::spans::Spans;
-use crate::work::{AREA, ROUNDS, clear};
+use crate::work::{AREA, admitted, clear};
 
 // The rounds in a work area, which is left clear.
 fn decode_in(
@@ -29,18 +30,20 @@ fn decode_in(
     spans: &Spans,
     rounds: u16,
     area: &mut [u64],
-    lows: &mut [u64],
-    highs: &mut [u64],
+    lows: &mut [u64; ENTRIES],
+    highs: &mut [u64; ENTRIES],
 )
-    requires area_room { length area.old ≡ 7168 }
-    requires lows_room { length lows.old ≡ 1024 }
-    requires highs_room { length highs.old ≡ 1024 }
-    ensures { Decoded (claimants claims.now) (span_at spans.now) rounds
-        area.old area.new lows.old lows.new highs.old highs.new }
+    requires { length area.old ≡ 7168 }
+    ensures low { let cs = claimants claims.now in Tabled cs (Low cs (span_at spans.now) rounds) lows.old lows.new }
+    ensures high { let cs = claimants claims.now in
+        1 ≤ rounds → Tabled cs (High cs (span_at spans.now) rounds) highs.old highs.new }
+    ensures high_untouched { rounds ≡ 0 → highs.new ≡ highs.old }
+    ensures area_clear { (k : ℕ) → k < 7168 → slice_index area.new k ≡ 0 }
 {
     {
-        let (evens, more) = area.split_at_mut(MESSAGES);
-        let (odds, _) = more.split_at_mut(MESSAGES);
+        let (rows, _) = area.as_chunks_mut::<PLACES>();
+        let (evens, rows) = rows.split_first_chunk_mut::<ENTRIES>().unwrap();
+        let (odds, _) = rows.split_first_chunk_mut::<ENTRIES>().unwrap();
         run(claims, spans, rounds, evens, odds, lows, highs);
     }
     clear(area);
@@ -62,12 +65,7 @@ pub fn decode(
     ensures decoded { is_ok result ≡ true → Decoded (claimants claims.now) (span_at spans.now) rounds
         work.old work.new lows.old lows.new highs.old highs.new }
 {
-    if rounds > ROUNDS {
-        return Err(Refusal::Rounds);
-    }
-    if work.len() < AREA {
-        return Err(Refusal::Area);
-    }
-    decode_in(claims, spans, rounds, &mut work[0..AREA], lows, highs);
+    admitted(rounds, work.len())?;
+    decode_in(claims, spans, rounds, &mut work[..AREA], lows, highs);
     Ok(rounds)
 }
