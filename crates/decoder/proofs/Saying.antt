@@ -1,5 +1,5 @@
 -- One more claimant has sent its messages, and has its bound in a table.
-use Rattle.std.proofs.Common.{◌≡◌, ℕ, ◌+◌, ◌<◌, ◌≤◌, Bool, true, ◌≢◌, List, [], ◌∷◌, map, length, get_or, set, sym, refl, ap, ◌∙◌, subst, arith, get_or-set_other, get_or-set_same, below_more}
+use Rattle.std.proofs.Common.{◌≡◌, ℕ, ◌+◌, ◌<◌, Bool, true, ◌≢◌, List, [], ◌∷◌, map, length, get_or, set, sym, refl, ap, ◌∙◌, subst, arith, get_or-set_other, get_or-set_same, below_more}
 use Rattle.std.proofs.lemmas.Bool.{both_ways}
 use Rattle.rounds.specs.Rounds.{Claimant, row_of, floor_of, besides, filled, Uses, TakesPart, tighter, tightest}
 use Rattle.rounds.proofs.Rows.{has_filled, filled_has, uses_inside}
@@ -15,36 +15,33 @@ pub record Said (cs : List Claimant) (message : ℕ → ℕ → ℕ) (bound : �
   pub told : (j : ℕ) → j < n → TakesPart cs j → get_or table j 0 ≡ bound j
   pub kept : (j : ℕ) → Absent cs j → get_or table j 0 ≡ get_or before j 0
 
-module _ (cs : List Claimant) (message : ℕ → ℕ → ℕ) (bound : ℕ → ℕ) (before : List ℕ) where
-  pub said_none : (msgs : List (List ℕ)) → Said cs message bound msgs before before 0
-  said_none msgs = record { mails = λ j s lt. absurd (omega arith); told = λ j lt. absurd (omega arith); kept = λ j off. refl }
+module _ {cs : List Claimant} {message : ℕ → ℕ → ℕ} {bound : ℕ → ℕ} {msgs : List (List ℕ)} {before table : List ℕ} {n : ℕ}
+    (done : Said cs message bound msgs before table n) where
+  pub said_skip : Absent cs n → Said cs message bound msgs before table (n + 1)
+  said_skip off = record {
+    mails = λ j s lt. below_more (λ k. (a : ℕ) → Uses cs k a → to a (row_of cs k) (get_or msgs k []) ≡ message k a) n
+        (λ k h a. done.mails k a h) (λ a on. absurd (both_ways _ off (has_filled a _ on))) j lt s;
+    told = below_more _ n done.told (λ on. absurd (both_ways _ off on));
+    kept = done.kept;
+  }
 
-  module _ (msgs : List (List ℕ)) (table : List ℕ) (i : ℕ) (done : Said cs message bound msgs before table i) where
-    pub said_skip : Absent cs i → Said cs message bound msgs before table (i + 1)
-    said_skip off = record {
-      mails = λ j s lt. below_more (λ k. (a : ℕ) → Uses cs k a → to a (row_of cs k) (get_or msgs k []) ≡ message k a) i
-          (λ k h a. done.mails k a h) (λ a on. absurd (both_ways _ off (has_filled a _ on))) j lt s;
-      told = below_more _ i done.told (λ on. absurd (both_ways _ off on));
-      kept = done.kept;
-    }
-
-    pub said_more : (sent : List ℕ) (x : ℕ) → i < length msgs → i < length table → TakesPart cs i →
-        ((s : ℕ) → Uses cs i s → to s (row_of cs i) sent ≡ message i s) → x ≡ bound i →
-        Said cs message bound (set msgs i sent) before (set table i x) (i + 1)
-    said_more sent x room room' part m e = record {
-      mails = λ j s lt. below_more (λ k. (a : ℕ) → Uses cs k a → to a (row_of cs k) (get_or (set msgs i sent) k []) ≡ message k a) i
-          (λ k h a on. ap (to a (row_of cs k)) (get_or-set_other msgs i k sent [] (omega arith)) ∙ done.mails k a h on)
-          (λ a on. ap (to a (row_of cs i)) (get_or-set_same msgs i sent [] room) ∙ m a on) j lt s;
-      told = below_more _ i
-          (λ j lt on. get_or-set_other table i j x 0 (omega arith) ∙ done.told j lt on)
-          (λ on. get_or-set_same table i x 0 room' ∙ e);
-      kept = λ j off.
-          let apart : j ≢ i = λ q. both_ways _ off (subst (λ k. TakesPart cs k) (sym q) part) in
-          get_or-set_other table i j x 0 apart ∙ done.kept j off;
-    }
+  pub said_more : (sent : List ℕ) (x : ℕ) → n < length msgs → n < length table → TakesPart cs n →
+      ((s : ℕ) → Uses cs n s → to s (row_of cs n) sent ≡ message n s) → x ≡ bound n →
+      Said cs message bound (set msgs n sent) before (set table n x) (n + 1)
+  said_more sent x room room' part m e = record {
+    mails = λ j s lt. below_more (λ k. (a : ℕ) → Uses cs k a → to a (row_of cs k) (get_or (set msgs n sent) k []) ≡ message k a) n
+        (λ k h a on. ap (to a (row_of cs k)) (get_or-set_other msgs n k sent [] (omega arith)) ∙ done.mails k a h on)
+        (λ a on. ap (to a (row_of cs n)) (get_or-set_same msgs n sent [] room) ∙ m a on) j lt s;
+    told = below_more _ n
+        (λ j lt on. get_or-set_other table n j x 0 (omega arith) ∙ done.told j lt on)
+        (λ on. get_or-set_same table n x 0 room' ∙ e);
+    kept = λ j off.
+        let apart : j ≢ n = λ q. both_ways _ off (subst (λ k. TakesPart cs k) (sym q) part) in
+        get_or-set_other table n j x 0 apart ∙ done.kept j off;
+  }
 
   -- All have.
-  module _ (msgs : List (List ℕ)) (table : List ℕ) (n : ℕ) (done : Said cs message bound msgs before table n) (all : length cs ≤ n) where
+  module _ (all : length cs ≡ n) where
     pub said_mails : (j s : ℕ) → Uses cs j s → to s (row_of cs j) (get_or msgs j []) ≡ message j s
     said_mails j s on = done.mails j s (omega (arith, uses_inside cs j s on)) on
 

@@ -1,8 +1,7 @@
 -- What the claimants have sent to a slot, added up claimant by claimant.
-use Rattle.std.proofs.Common.{◌≡◌, ℕ, ◌+◌, ◌*◌, ◌^◌, ◌<◌, ◌≤◌, cond, eqb, ◌≢◌, List, [], length, get_or, sym, ap, ◌∙◌, arith}
+use Rattle.std.proofs.Common.{◌≡◌, ℕ, ◌+◌, ◌^◌, ◌<◌, ◌≤◌, cond, eqb, ◌≢◌, List, [], length, get_or, sym, arith}
 use Rattle.std.proofs.lemmas.Bool.{cond_both, cond-true, cond-false, eq-eqb, ne_eqb}
-use Rattle.rounds.specs.declared.span.Span.{Span}
-use Rattle.rounds.specs.Rounds.{Claimant, row_of, has, share, sum, message}
+use Rattle.rounds.specs.Rounds.{row_of, has, share, sum, message}
 use Rattle.rounds.proofs.Sums.{sum_more}
 use Rattle.decoder.specs.declared.claims.Claim.{Claim}
 use Rattle.decoder.specs.declared.claims.Claims.{Claims}

@@ -1,5 +1,5 @@
 -- What the rounds take from the types of their inputs: rows of three slots that rise, and small floors and spans.
-use Rattle.std.proofs.Common.{◌≡◌, ℕ, zero, suc, ◌^◌, ◌<◌, ◌≤◌, Bool, true, false, eqb, ltb, List, [], ◌∷◌, map, length, get_or, Some, sym, refl, ap, ◌∙◌, arith}
+use Rattle.std.proofs.Common.{◌≡◌, ℕ, zero, suc, ◌^◌, ◌<◌, ◌≤◌, Bool, true, false, eqb, ltb, List, [], ◌∷◌, map, length, get_or, sym, refl, ap, ◌∙◌, arith}
 use Rattle.std.proofs.lemmas.Bool.{and_parts, eqb-true, ltb-true}
 use Rattle.std.proofs.lemmas.List.{get_or-map, length-map}
 use Rattle.wiring.specs.Rising.{rising, is_row}
@@ -34,9 +34,9 @@ module _ (claims : Claims) where
   unfolding claimants
   floors_small = at_floor claims.entries.items
 
-  pub claims_many : length (claimants claims) ≡ length claims.entries.items
+  pub claims_many : (xs : List Claim) (n : ℕ) → xs ≡ claims.entries.items → length xs ≤ n → n ≤ length xs → length (claimants claims) ≡ n
   unfolding claimants
-  claims_many = length-map claims.entries.items claimant_of
+  claims_many xs n same le ge = omega (arith, ap length same, length-map claims.entries.items claimant_of)
 
   -- The entry x that is read at i is claimant i.
   module _ (xs : List Claim) (i : ℕ) (x : Claim) (same : xs ≡ claims.entries.items) (lt : i < length xs) (is : x ≡ get_or xs i x) where

@@ -2,10 +2,9 @@
 // What it needs of claimants and spans is the invariant of their types, so a call asks nothing of its caller.
 #![tactic(auto)]
 
-ghost use Rattle.std.specs.Prelude.{◌≡◌, ℕ, ◌<◌, ◌≤◌, true, false, length, is_ok, slice_index};
-ghost use Rattle.rounds.specs.Rounds.{Low, High};
+ghost use Rattle.std.specs.Prelude.{◌≡◌, true, false, length, is_ok};
 ghost use Rattle.decoder.specs.Inputs.{claimants, span_at};
-ghost use Rattle.decoder.specs.Decoding.{told, answer, Tabled, Decoded};
+ghost use Rattle.decoder.specs.Decoding.{told, answer, Decoded};
 
 pub mod claims;
 mod entries;
@@ -18,36 +17,10 @@ pub mod unfit;
 pub mod work;
 
 use crate::claims::Claims;
-use crate::limits::{ENTRIES, PLACES};
 use crate::refusal::Refusal;
 use crate::running::run;
 use crate::spans::Spans;
-use crate::work::{AREA, admitted, clear};
-
-// The rounds in a work area, which is left clear.
-fn decode_in(
-    claims: &Claims,
-    spans: &Spans,
-    rounds: u16,
-    area: &mut [u64],
-    lows: &mut [u64; ENTRIES],
-    highs: &mut [u64; ENTRIES],
-)
-    requires { length area.old ≡ 7168 }
-    ensures low { let cs = claimants claims.now in Tabled cs (Low cs (span_at spans.now) rounds) lows.old lows.new }
-    ensures high { let cs = claimants claims.now in
-        1 ≤ rounds → Tabled cs (High cs (span_at spans.now) rounds) highs.old highs.new }
-    ensures high_untouched { rounds ≡ 0 → highs.new ≡ highs.old }
-    ensures area_clear { (k : ℕ) → k < 7168 → slice_index area.new k ≡ 0 }
-{
-    {
-        let (rows, _) = area.as_chunks_mut::<PLACES>();
-        let (evens, rows) = rows.split_first_chunk_mut::<ENTRIES>().unwrap();
-        let (odds, _) = rows.split_first_chunk_mut::<ENTRIES>().unwrap();
-        run(claims, spans, rounds, evens, odds, lows, highs);
-    }
-    clear(area);
-}
+use crate::work::{AREA, admitted};
 
 // The bounds of each claimant that takes part after `rounds` rounds, written into the two tables.
 // It works in the first 7,168 numbers of the lent area, whatever they hold, and leaves them 0.
@@ -66,6 +39,6 @@ pub fn decode(
         work.old work.new lows.old lows.new highs.old highs.new }
 {
     admitted(rounds, work.len())?;
-    decode_in(claims, spans, rounds, &mut work[..AREA], lows, highs);
+    run(claims, spans, rounds, &mut work[..AREA], lows, highs);
     Ok(rounds)
 }

@@ -1,5 +1,5 @@
 // The rounds one after another, in a work area.
-ghost use Rattle.std.specs.Prelude.{◌≡◌, ℕ, ◌≤◌};
+ghost use Rattle.std.specs.Prelude.{◌≡◌, ℕ, ◌<◌, ◌≤◌, length, slice_index};
 ghost use Rattle.rounds.specs.declared.span.Span.{Span};
 ghost use Rattle.rounds.specs.Rounds.{floor_of, Low, High};
 ghost use Rattle.decoder.specs.Inputs.{claimants, span_at};
@@ -10,6 +10,7 @@ use crate::claims::Claims;
 use crate::limits::{ENTRIES, PLACES};
 use crate::round::{Messages, Round};
 use crate::spans::Spans;
+use crate::work::clear;
 
 // Round 0: the floor of each claimant that takes part is its message to each slot, and its low.
 fn start(claims: &Claims, messages: &mut Messages, lows: &mut [u64; ENTRIES])
@@ -24,41 +25,45 @@ fn start(claims: &Claims, messages: &mut Messages, lows: &mut [u64; ENTRIES])
     }
 }
 
-// All the rounds. The messages of even rounds have one place, and those of odd rounds another.
+// All the rounds, in a work area, which is left clear. The messages of even rounds have one part of it, and those of
+// odd rounds another.
 pub(crate) fn run(
     claims: &Claims,
     spans: &Spans,
     rounds: u16,
-    evens: &mut Messages,
-    odds: &mut Messages,
+    area: &mut [u64],
     lows: &mut [u64; ENTRIES],
     highs: &mut [u64; ENTRIES],
 )
+    requires { length area.old ≡ 7168 }
     ensures low { let cs = claimants claims.now in Tabled cs (Low cs (span_at spans.now) rounds) lows.old lows.new }
     ensures high { let cs = claimants claims.now in
         1 ≤ rounds → Tabled cs (High cs (span_at spans.now) rounds) highs.old highs.new }
     ensures high_untouched { rounds ≡ 0 → highs.new ≡ highs.old }
+    ensures clear { (k : ℕ) → k < 7168 → slice_index area.new k ≡ 0 }
 {
+    let (rows, _) = area.as_chunks_mut::<PLACES>();
+    let (evens, rows) = rows.split_first_chunk_mut::<ENTRIES>().unwrap();
+    let (odds, _) = rows.split_first_chunk_mut::<ENTRIES>().unwrap();
     start(claims, evens, lows);
     for past in 0..rounds {
         if past % 2 == 0 {
-            let old = &*evens;
-            Round {
+            let round = Round {
                 claims,
                 spans,
                 past,
-                old,
-            }
-            .run(odds, highs);
+                old: evens,
+            };
+            round.run(odds, highs);
         } else {
-            let old = &*odds;
-            Round {
+            let round = Round {
                 claims,
                 spans,
                 past,
-                old,
-            }
-            .run(evens, lows);
+                old: odds,
+            };
+            round.run(evens, lows);
         }
     }
+    clear(area);
 }

@@ -4,12 +4,12 @@ use Rattle.decoder.proofs.decode.Goals as goal
 
 pub returns-clause-decoded : goal.returns-clause-decoded
 returns-clause-decoded c = λ _.
-    let len : length c.decode_in.new.area ≡ 7168 =
+    let len : length c.run.new.area ≡ 7168 =
     omega (arith, length-take-le 7168 c.args.work.now c.in_ok-admitted.ensures.enough) in
     record {
-      low = c.decode_in.ensures.low;
-      high = c.decode_in.ensures.high;
-      high_untouched = c.decode_in.ensures.high_untouched;
-      area_clear = λ k lt. get_or_append_left c.decode_in.new.area _ 0 k (omega arith) ∙ c.decode_in.ensures.area_clear k lt;
-      area_kept = drop_at c.decode_in.new.area _ 7168 len;
+      low = c.run.ensures.low;
+      high = c.run.ensures.high;
+      high_untouched = c.run.ensures.high_untouched;
+      area_clear = λ k lt. get_or_append_left c.run.new.area _ 0 k (omega arith) ∙ c.run.ensures.clear k lt;
+      area_kept = drop_at c.run.new.area _ 7168 len;
     }

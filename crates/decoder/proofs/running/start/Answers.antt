@@ -1,5 +1,5 @@
-use Rattle.std.proofs.Common.{◌≡◌, ℕ, ◌<◌, List, length, length-set, sym, ap, ◌∙◌, arith}
-use Rattle.decoder.specs.Limits.{slots_in, rises}
+use Rattle.std.proofs.Common.{ℕ, List, length, length-set, sym, ap, ◌∙◌, arith}
+use Rattle.decoder.specs.Limits.{slots_in}
 use Rattle.decoder.specs.Inputs.{claimants}
 use Rattle.decoder.proofs.Wired.{claims_many, row_is, floor_is}
 use Rattle.decoder.proofs.Saying.{said_mails, said_bounds, said_skip, said_more, part_of, absent_of, says_floor}
@@ -17,18 +17,18 @@ loop-i-preserved c =
       | in-Some w ↦
           let rising = rw w.in-Some.is at x.rising in
           let row = slots ∙ ap slots_in w.in-Some.is in
-          rw (w.messages-is, w.lows-is) (said_more _ _ _ _ _ _ i c.loop-i.invariant _ x.floor
+          rw (w.messages-is, w.lows-is) (said_more c.loop-i.invariant _ x.floor
           (omega (arith, c.match-claim.array_long, ap length w.messages-is, length-set {A = List ℕ}))
           (omega (arith, c.match-claim.array_long2, ap length w.lows-is, length-set {A = ℕ}))
           (part_of (claimants claims) i _ rising row) (says_floor (claimants claims) i _ rising row x.floor floor) (sym floor))
-      | in_default w ↦ rw (w.messages-is, w.lows-is) (said_skip _ _ _ _ _ _ i c.loop-i.invariant
+      | in_default w ↦ rw (w.messages-is, w.lows-is) (said_skip c.loop-i.invariant
           (absent_of (claimants claims) i (slots ∙ ap slots_in w.in_default.is)))
     ]
 
 pub returns-clause-held : goal.returns-clause-held
-returns-clause-held c = λ spans. said_mails _ _ _ _ _ _ _ c.loop-i.invariant
-    (omega (arith, claims_many c.args.claims.now, ap length c.as_slice-claim-items.ensures.value))
+returns-clause-held c = λ spans. said_mails c.loop-i.invariant
+    (claims_many c.args.claims.now _ _ c.as_slice-claim-items.ensures.value c.loop-i-test.false c.loop-i.auto.i-end)
 
 pub returns-clause-lows : goal.returns-clause-lows
-returns-clause-lows c = said_bounds _ _ _ _ _ _ _ c.loop-i.invariant
-    (omega (arith, claims_many c.args.claims.now, ap length c.as_slice-claim-items.ensures.value))
+returns-clause-lows c = said_bounds c.loop-i.invariant
+    (claims_many c.args.claims.now _ _ c.as_slice-claim-items.ensures.value c.loop-i-test.false c.loop-i.auto.i-end)

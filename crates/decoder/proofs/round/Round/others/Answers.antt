@@ -1,5 +1,4 @@
-use Rattle.std.proofs.Common.{◌≡◌, length, ap, ◌∙◌, arith}
-use Rattle.decoder.specs.Inputs.{claimants}
+use Rattle.std.proofs.Common.{sym, ap, ◌∙◌, arith}
 use Rattle.decoder.proofs.Wired.{claims_many}
 use Rattle.decoder.proofs.Sums.{sum_to, shared_small, sent_shared, sum_skip, sum_take}
 use Rattle.decoder.proofs.round.Round.others.Goals as goal
@@ -35,5 +34,6 @@ loop-j-preserved c =
 pub returns : goal.returns
 returns c =
     let r = c.args.self.now in
-    let all : c.loop-j.j ≡ length (claimants r.claims.now) = omega (arith, claims_many r.claims.now, ap length c.as_slice-claim-items.ensures.value) in
-    c.loop-j.invariant.0 ∙ ap (sum_to r.claims.now r.spans.now r.past c.args.slot c.args.i) all
+    c.loop-j.invariant.0
+    ∙ ap (sum_to r.claims.now r.spans.now r.past c.args.slot c.args.i)
+    (sym (claims_many r.claims.now _ _ c.as_slice-claim-items.ensures.value c.loop-j-test.false c.loop-j.auto.j-end))
