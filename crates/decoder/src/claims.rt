@@ -38,7 +38,7 @@ impl Claim {
     pub(crate) fn sent(&self, messages: &[u64; PLACES], slot: u16) -> u64
         ensures { result ≡ to slot (slots_in self.now.row) messages.now }
     {
-        let Some(row) = self.row else { return 0 };
+        let Some(row) = &self.row else { return 0 };
         match row.iter().position(|own| *own == slot) {
             Some(place) => messages[place],
             None => 0,
