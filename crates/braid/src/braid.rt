@@ -2,7 +2,6 @@
 ghost use Rattle.std.specs.Prelude.{◌≡◌};
 ghost use Rattle.store.specs.Meaning.{Live, Fresh, Spans, Adds, Settles};
 ghost use Rattle.store.specs.Refusals.{told};
-ghost use Rattle.wiring.specs.Wiring.{bits_of, slots_of};
 ghost use Rattle.braid.specs.BraidMeaning.{BraidSound, braid_meaning};
 ghost use Rattle.braid.specs.BraidLaws.{braid_laws};
 ghost use Rattle.braid.specs.Layers.{blank, SameWiring};
@@ -30,7 +29,7 @@ impl<S: Store> Braid<S> {
     // A braid without slots.
     pub fn new(below: S, depth: Depth) -> Braid<S>
         ensures below { result.below ≡ below }
-        ensures layer { result.layer ≡ blank (bits_of depth) }
+        ensures layer { result.layer ≡ blank depth }
         ensures sound { S.Store.meaning.sound below → BraidSound S.Store.meaning result }
         ensures fresh { Fresh S.Store.meaning below → Fresh (braid_meaning S.Store.meaning) result }
     {
@@ -42,7 +41,7 @@ impl<S: Store> Braid<S> {
 
     // One slot more, on a row of slots of the store below. It answers the slot's number.
     pub fn wire(&mut self, row: Row) -> Result<u16, Refusal>
-        ensures { Wires S.Store.meaning self.old self.new (slots_of row) (told_wire result) }
+        ensures { Wires S.Store.meaning self.old self.new row (told_wire result) }
     {
         if self.layer.weight > 0 || self.below.weight() > 0 {
             return Err(Refusal::Weighted);
@@ -53,7 +52,7 @@ impl<S: Store> Braid<S> {
         if !within(row.slots(), self.below.slots()) {
             return Err(Refusal::Store(StoreRefusal::NoSlot));
         }
-        Ok(self.layer.wire(row.to_array()))
+        Ok(self.layer.wire(row.into()))
     }
 }
 

@@ -30,7 +30,7 @@ fn push_claim(layer: &Layer, i: usize, claims: &mut Claims) -> Result<u16, Refus
     if layer.bits[i] != 1 {
         return taken(claims.push_absent());
     }
-    match Row::from_slice(&layer.rows[i]) {
+    match Row::try_from(layer.row(i)) {
         Ok(row) => taken(claims.push(row, 1)),
         Err(_) => Err(Refusal::NoSlot),
     }

@@ -2,7 +2,6 @@
 // status bit (1 where the counter has run over) and the row; and of the slots that are raised what
 // the last settling worked out.
 ghost use Rattle.std.specs.Prelude.{◌≡◌, ◌+◌, ◌*◌, ◌^◌, ◌<◌, ◌≤◌, min, IfSome, MatchOption};
-ghost use Rattle.wiring.specs.Wiring.{bits_of};
 ghost use Rattle.braid.specs.Layers.{Deep, Room, SameWiring, blank, carry, added, wired, known_span};
 ghost use Rattle.braid.specs.BraidMeaning.{modulus, row};
 
@@ -28,7 +27,8 @@ pub(crate) const SLOTS: usize = 1024;
 impl Layer {
     // A layer without slots.
     pub(crate) fn new(depth: Depth) -> Layer
-        ensures { result ≡ blank (bits_of depth) }
+        ensures value { result ≡ blank depth }
+        ensures deep { Deep result }
     {
         Layer {
             parts: [0; SLOTS],

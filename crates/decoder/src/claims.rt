@@ -61,7 +61,6 @@ pub struct Claims {
 #[tactic(auto, unfolding(crate::specs::Inputs::claimants))]
 impl Claims {
     ghost use Rattle.rounds.specs.Rounds.{floor_of, nobody};
-    ghost use Rattle.wiring.specs.Wiring.{slots_of};
     ghost use Rattle.decoder.specs.Inputs.{claimants, claim_told, grown};
 
     pub fn new() -> Claims
@@ -74,9 +73,9 @@ impl Claims {
 
     // One more claimant, that takes part. It answers the claimant's number.
     pub fn push(&mut self, row: Row, floor: u64) -> Result<u16, Unfit>
-        ensures answer { result ≡ claim_told (claimants self.old) (record { row = slots_of row; floor = floor }) }
+        ensures answer { result ≡ claim_told (claimants self.old) (record { row = row; floor = floor }) }
         ensures grows { claimants self.new
-            ≡ grown result (claimants self.old) (record { row = slots_of row; floor = floor }) }
+            ≡ grown result (claimants self.old) (record { row = row; floor = floor }) }
     {
         let number = next_number(&self.entries)?;
         if floor > CEILING {
@@ -85,7 +84,7 @@ impl Claims {
         if !reaches(row.slots()) {
             return Err(Unfit::Slot);
         }
-        let row = Some(row.to_array());
+        let row = Some(row.into());
         self.entries.push(Claim { row, floor });
         Ok(number)
     }

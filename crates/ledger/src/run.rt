@@ -2,7 +2,6 @@
 ghost use Rattle.std.specs.Prelude.{◌≡◌, ℕ, min, [], ◌∷◌, map, length, take, drop};
 ghost use Rattle.store.specs.FlatMeaning.{flat_meaning};
 ghost use Rattle.store.specs.Meaning.{Fresh};
-ghost use Rattle.wiring.specs.Wiring.{bits_of};
 ghost use Rattle.ledger.specs.Calls.{asked, told};
 ghost use Rattle.ledger.specs.Ledger.{Ledger, wire, add, settle, answer, after};
 ghost use Rattle.ledger.specs.Promise.{Stands, Worked, Promise};
@@ -18,7 +17,7 @@ use wiring::row::Row;
 fn wire_one<S: Store>(braid: &mut Braid<S>, slots: &[u16]) -> Answer
     ensures { (depth : ℕ) (L : Ledger) → Stands S.Store.meaning depth L braid.old → (told result ≡ answer L (wire slots.now)) × Stands S.Store.meaning depth (after L (wire slots.now)) braid.new }
 {
-    match Row::from_slice(slots) {
+    match Row::try_from(slots) {
         Ok(row) => match braid.wire(row) {
             Ok(slot) => Answer::Wired(slot),
             Err(why) => Answer::Denied(Denial::Braid(why)),
@@ -69,7 +68,7 @@ pub fn run<S: Store>(
     answers: &mut [Answer],
 ) -> (Braid<S>, usize)
     ensures count { result.1 ≡ min (length calls.now) (length answers.old) }
-    ensures promise { Fresh S.Store.meaning below → Promise S.Store.meaning (bits_of depth) (S.Store.meaning.slots below) (map (asked (length work.old)) (take result.1 calls.now)) (map told (take result.1 answers.new)) result.0 work.old work.new }
+    ensures promise { Fresh S.Store.meaning below → Promise S.Store.meaning depth (S.Store.meaning.slots below) (map (asked (length work.old)) (take result.1 calls.now)) (map told (take result.1 answers.new)) result.0 work.old work.new }
     ensures kept { drop result.1 answers.new ≡ drop result.1 answers.old }
 {
     let mut braid = Braid::new(below, depth);
@@ -89,7 +88,7 @@ pub fn run_on_table<'a>(
     answers: &mut [Answer],
 ) -> (Braid<Flat<'a>>, usize)
     ensures count { result.1 ≡ min (length calls.now) (length answers.old) }
-    ensures promise { Promise flat_meaning (bits_of depth) (min (length table.old) 1024) (map (asked (length work.old)) (take result.1 calls.now)) (map told (take result.1 answers.new)) result.0 work.old work.new }
+    ensures promise { Promise flat_meaning depth (min (length table.old) 1024) (map (asked (length work.old)) (take result.1 calls.now)) (map told (take result.1 answers.new)) result.0 work.old work.new }
     ensures kept { drop result.1 answers.new ≡ drop result.1 answers.old }
 {
     run(Flat::new(table), depth, calls, work, answers)

@@ -18,7 +18,7 @@ pub fn push_claimant(claims: &mut Claims, slots: &[u16], floor: u64) -> Result<u
     ensures said { told result ≡ claim_said (claimants claims.old) slots.now floor }
     ensures grows { claimants claims.new ≡ claims_then (claimants claims.old) slots.now floor }
 {
-    let Ok(row) = Row::from_slice(slots) else {
+    let Ok(row) = Row::try_from(slots) else {
         return Err(Refusal::NoSlot);
     };
     let number = claims.push(row, floor)?;

@@ -5,9 +5,9 @@ ghost use Rattle.wiring.specs.Wiring.{number};
 #[derive(Clone, Copy, PartialEq, Eq, Debug)]
 pub enum Refusal {
     // the slot numbers are not three in strictly rising order
-    Unordered,
+    Unordered = 5,
     // the number of bits is not 2 to 16
-    Bits,
+    Bits = 10,
 }
 
 impl Refusal {
@@ -15,9 +15,6 @@ impl Refusal {
     pub fn number(&self) -> u8
         ensures { result ≡ number self.now }
     {
-        match self {
-            Refusal::Unordered => 5,
-            Refusal::Bits => 10,
-        }
+        *self as u8
     }
 }

@@ -1,6 +1,5 @@
 use Rattle.std.proofs.Common.{◌≡◌, ◌+◌, ◌<◌, length, drop, sym, refl, ap, ◌∙◌, subst, arith}
 use Rattle.std.proofs.lemmas.List.{drop-drop, drop-set-lt}
-use Rattle.wiring.specs.Wiring.{bits_of}
 use Rattle.ledger.specs.Ledger.{opened}
 use Rattle.ledger.proofs.AddingUp.{totals_add_up_lem}
 use Rattle.ledger.proofs.Ruling.{ruled, closes}
@@ -29,15 +28,15 @@ returns g c =
     record {
       count = c.min-many.ensures;
       promise = λ fresh.
-          let first = stands_first m (bits_of c.args.depth) c.args.below c.new-braid.result c.new-braid.ensures.below c.new-braid.ensures.layer (c.new-braid.ensures.fresh fresh) in
-          let done = subst (λ k. SoFar m (bits_of c.args.depth) (opened (m.slots c.args.below)) (length c.args.work.now) c.args.calls.now c.loop-i.answers k
-          c.loop-i.braid c.args.work.now c.loop-i.work) all (c.loop-i.invariant.0 (bits_of c.args.depth) (opened (m.slots c.args.below)) first) in
+          let first = stands_first m c.args.depth c.args.below c.new-braid.result c.new-braid.ensures.below c.new-braid.ensures.layer (c.new-braid.ensures.fresh fresh) in
+          let done = subst (λ k. SoFar m c.args.depth (opened (m.slots c.args.below)) (length c.args.work.now) c.args.calls.now c.loop-i.answers k
+          c.loop-i.braid c.args.work.now c.loop-i.work) all (c.loop-i.invariant.0 c.args.depth (opened (m.slots c.args.below)) first) in
           record {
             answers = done.0;
             sums = totals_add_up_lem (m.slots c.args.below) _;
             stands = done.1;
-            ruled = ruled m (bits_of c.args.depth) _ _ done.1;
-            closes = closes m g.S.Store.laws (bits_of c.args.depth) _ _ done.1;
+            ruled = ruled m c.args.depth _ _ done.1;
+            closes = closes m g.S.Store.laws c.args.depth _ _ done.1;
             worked = done.2;
           };
       kept = subst (λ k. drop k c.loop-i.answers ≡ drop k c.args.answers.now) all c.loop-i.invariant.1;

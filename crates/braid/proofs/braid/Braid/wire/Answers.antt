@@ -1,6 +1,6 @@
-use Rattle.std.proofs.Common.{◌≡◌, Ok, sym, refl, ap, ◌∙◌, subst, inl, inr, arith}
+use Rattle.std.proofs.Common.{◌≡◌, true, Ok, sym, refl, ap, ◌∙◌, subst, inl, inr, arith}
 use Rattle.store.specs.Meaning.{Within}
-use Rattle.wiring.specs.Wiring.{slots_of}
+use Rattle.wiring.specs.Rising.{is_row}
 use Rattle.braid.specs.declared.layer.Layer.{Layer}
 use Rattle.braid.specs.Layers.{wired}
 use Rattle.braid.specs.Wires.{Wired}
@@ -11,10 +11,10 @@ pub returns : goal.returns
 returns g c =
     let m = g.S.Store.meaning in
     let s = c.args.self.now in
-    let row = slots_of c.args.row in
+    let row = c.args.row in
     let fits : Within (m.slots s.below) row =
-    subst (λ N. Within N row) c.slots-2.ensures (subst (Within c.slots-2.result) c.slots.ensures c.if-not-within.ensures) in
-    let is : c.wire.new.self ≡ wired s.layer row = c.wire.ensures.wired ∙ ap (wired s.layer) c.to_array.ensures in
+    subst (λ N. Within N row) c.slots-2.ensures (subst (Within c.slots-2.result) c.slots.ensures.value c.if-not-within.ensures) in
+    let is : c.wire.new.self ≡ wired s.layer row = c.wire.ensures.wired ∙ ap (wired s.layer) c.into.ensures in
     record {
       weighted = λ some. elim some [ inl own ↦ absurd (omega arith) | inr below ↦ absurd (omega (arith, c.weight.ensures)) ];
       full = λ own below full. absurd (omega arith);
@@ -29,7 +29,7 @@ returns g c =
             depth = refl;
             weight = refl;
             rounds = refl;
-            sound = wired_sound m s row few room own c.args.row.rising within;
+            sound = wired_sound m s row few room own (subst (λ r. is_row r ≡ true) c.slots.ensures.value c.slots.ensures.rising) within;
             admits = λ T sound. wired_admits m s row few room T sound.shallow;
           });
     }
