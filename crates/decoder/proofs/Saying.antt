@@ -11,7 +11,7 @@ use Rattle.decoder.proofs.Messages.{to_each, to_others}
 
 -- The first n claimants have sent their messages and have their bounds in a table, which is as before where nobody takes part.
 pub record Said (cs : List Claimant) (message : ℕ → ℕ → ℕ) (bound : ℕ → ℕ) (msgs : List (List ℕ)) (before table : List ℕ) (n : ℕ) : Type 0 where
-  pub mails : (j s : ℕ) → j < n → Uses cs j s → to s (row_of cs j) (get_or msgs j []) ≡ message j s
+  pub mails : (j : ℕ) → j < n → (s : ℕ) → Uses cs j s → to s (row_of cs j) (get_or msgs j []) ≡ message j s
   pub told : (j : ℕ) → j < n → TakesPart cs j → get_or table j 0 ≡ bound j
   pub kept : (j : ℕ) → Absent cs j → get_or table j 0 ≡ get_or before j 0
 
@@ -19,8 +19,7 @@ module _ {cs : List Claimant} {message : ℕ → ℕ → ℕ} {bound : ℕ → �
     (done : Said cs message bound msgs before table n) where
   pub said_skip : Absent cs n → Said cs message bound msgs before table (n + 1)
   said_skip off = record {
-    mails = λ j s lt. below_more (λ k. (a : ℕ) → Uses cs k a → to a (row_of cs k) (get_or msgs k []) ≡ message k a) n
-        (λ k h a. done.mails k a h) (λ a on. absurd (both_ways _ off (has_filled a _ on))) j lt s;
+    mails = below_more _ n done.mails (λ a on. absurd (both_ways _ off (has_filled a _ on)));
     told = below_more _ n done.told (λ on. absurd (both_ways _ off on));
     kept = done.kept;
   }
@@ -29,9 +28,9 @@ module _ {cs : List Claimant} {message : ℕ → ℕ → ℕ} {bound : ℕ → �
       ((s : ℕ) → Uses cs n s → to s (row_of cs n) sent ≡ message n s) → x ≡ bound n →
       Said cs message bound (set msgs n sent) before (set table n x) (n + 1)
   said_more sent x room room' part m e = record {
-    mails = λ j s lt. below_more (λ k. (a : ℕ) → Uses cs k a → to a (row_of cs k) (get_or (set msgs n sent) k []) ≡ message k a) n
-        (λ k h a on. ap (to a (row_of cs k)) (get_or-set_other msgs n k sent [] (omega arith)) ∙ done.mails k a h on)
-        (λ a on. ap (to a (row_of cs n)) (get_or-set_same msgs n sent [] room) ∙ m a on) j lt s;
+    mails = below_more _ n
+        (λ j lt s on. ap (to s (row_of cs j)) (get_or-set_other msgs n j sent [] (omega arith)) ∙ done.mails j lt s on)
+        (λ s on. ap (to s (row_of cs n)) (get_or-set_same msgs n sent [] room) ∙ m s on);
     told = below_more _ n
         (λ j lt on. get_or-set_other table n j x 0 (omega arith) ∙ done.told j lt on)
         (λ on. get_or-set_same table n x 0 room' ∙ e);
@@ -43,7 +42,7 @@ module _ {cs : List Claimant} {message : ℕ → ℕ → ℕ} {bound : ℕ → �
   -- All have.
   module _ (all : length cs ≡ n) where
     pub said_mails : (j s : ℕ) → Uses cs j s → to s (row_of cs j) (get_or msgs j []) ≡ message j s
-    said_mails j s on = done.mails j s (omega (arith, uses_inside cs j s on)) on
+    said_mails j s on = done.mails j (omega (arith, uses_inside cs j s on)) s on
 
     pub said_bounds : Tabled cs bound before table
     said_bounds = record {

@@ -1,5 +1,5 @@
 -- What the rounds take from the types of their inputs: rows of three slots that rise, and small floors and spans.
-use Rattle.std.proofs.Common.{◌≡◌, ℕ, zero, suc, ◌^◌, ◌<◌, ◌≤◌, Bool, true, false, eqb, ltb, List, [], ◌∷◌, map, length, get_or, sym, refl, ap, ◌∙◌, arith}
+use Rattle.std.proofs.Common.{◌≡◌, ℕ, zero, suc, ◌^◌, ◌<◌, ◌≤◌, Bool, true, false, eqb, ltb, List, [], ◌∷◌, map, length, get_or, Some, None, Option, is_some, sym, refl, ap, ◌∙◌, arith}
 use Rattle.std.proofs.lemmas.Bool.{and_parts, eqb-true, ltb-true}
 use Rattle.std.proofs.lemmas.List.{get_or-map, length-map}
 use Rattle.wiring.specs.Rising.{rising, is_row}
@@ -9,7 +9,7 @@ use Rattle.decoder.specs.declared.claims.Claim.{Claim}
 use Rattle.decoder.specs.declared.claims.Claims.{Claims}
 use Rattle.decoder.specs.declared.spans.Ends.{Ends}
 use Rattle.decoder.specs.declared.spans.Spans.{Spans}
-use Rattle.decoder.specs.Limits.{slots_in}
+use Rattle.decoder.specs.Limits.{slots_in, rises}
 use Rattle.decoder.specs.Inputs.{claimant_of, claimants, span_of, spans_in, span_at}
 
 -- What holds of every entry holds of every claimant, and of nobody.
@@ -75,3 +75,12 @@ row_three row r =
         let p = and_parts (ltb a b) (rising (b ∷ (c ∷ []))) h in
         (a, b, c, refl, ltb-true a b p.0, ltb-true b c (and_parts (ltb b c) true p.1).0)
     three (a ∷ (b ∷ (c ∷ (d ∷ xs)))) l h = absurd (omega arith)
+
+-- An entry with a row takes part, and one without has no slots.
+pub some_row : (row : Option (List ℕ)) → true ≡ is_some row → rises row ≡ true → is_row (slots_in row) ≡ true
+some_row None t r = cc
+some_row (Some row) t r = r
+
+pub no_row : (row : Option (List ℕ)) → false ≡ is_some row → slots_in row ≡ []
+no_row None f = refl
+no_row (Some row) f = cc

@@ -11,7 +11,7 @@ use wiring::row::Row;
 // One claimant. The limits keep every sum of messages below 2^64.
 #[derive(Clone, Copy)]
 pub(crate) struct Claim {
-    pub(crate) row: Option<[u16; 3]>,
+    pub(crate) row: Option<[u16; PLACES]>,
     pub(crate) floor: u64,
     ghost rising: { rises row ≡ true },
     ghost reaches: { within row ≡ true },
@@ -98,6 +98,7 @@ impl Claims {
         self.entries.push(Claim::default());
         Ok(number)
     }
+
     // The floor of claimant i, 0 if there is none of that number.
     pub(crate) fn floor(&self, i: usize) -> u64
         ensures { result ≡ floor_of (claimants self.now) i }

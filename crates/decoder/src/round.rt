@@ -38,6 +38,7 @@ impl Round<'_> {
     }
 
     // The sum of what the claimants other than i have sent to the slot.
+    // A loop, as a chain's `sum` wants a bound on what it adds up, and the bound of a message is known entry by entry.
     fn others(&self, slot: u16, i: usize) -> u64
         ensures { let cs = claimants self.now.claims.now in
             result ≡ rest cs (λ j. message cs (span_at self.now.spans.now) self.now.past j slot) slot i }

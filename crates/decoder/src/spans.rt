@@ -6,7 +6,7 @@ use crate::limits::{CEILING, ENTRIES};
 use crate::unfit::Unfit;
 use arrayvec::ArrayVec;
 
-// One slot's span.
+// One slot's span. It isn't the `Span` of `rounds`, since that one has no limits.
 #[derive(Clone, Copy)]
 pub(crate) struct Ends {
     low: u64,
