@@ -103,9 +103,9 @@ impl Claims {
     pub(crate) fn floor(&self, i: usize) -> u64
         ensures { result ≡ floor_of (claimants self.now) i }
     {
-        match self.entries.as_slice().get(i) {
-            Some(claim) => claim.floor,
-            None => 0,
-        }
+        self.entries
+            .as_slice()
+            .get(i)
+            .map_or(0, |claim| claim.floor)
     }
 }

@@ -58,9 +58,7 @@ impl Spans {
     pub(crate) fn edge(&self, up: bool, slot: u16) -> u64
         ensures { result ≡ edge up (span_at self.now slot) }
     {
-        match self.entries.as_slice().get(slot as usize) {
-            Some(ends) => if up { ends.high } else { ends.low },
-            None => 0,
-        }
+        let ends = self.entries.as_slice().get(slot as usize);
+        ends.map_or(0, |ends| if up { ends.high } else { ends.low })
     }
 }
