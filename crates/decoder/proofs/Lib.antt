@@ -1,5 +1,6 @@
 pub mod Messages
 pub mod Wired
 pub mod Sums
+pub mod Gathering
 pub mod Saying
 pub mod Stepping

@@ -1,9 +1,9 @@
 -- What goes to a slot, where the messages of a claimant stand side by side.
-use Rattle.std.proofs.Common.{◌≡◌, ℕ, ◌<◌, ◌≤◌, Bool, true, false, eqb, List, [], ◌∷◌, map, length, get_or, Some, None, Option, sym, refl, ◌∙◌, inl, inr, arith}
+use Rattle.std.proofs.Common.{◌≡◌, ℕ, ◌<◌, ◌≤◌, false, eqb, List, [], ◌∷◌, length, get_or, Some, None, Option, sym, refl, ◌∙◌, inl, inr, arith}
 use Rattle.std.proofs.lemmas.Bool.{cases_eq, cases_lt, cond-true, cond-false, lt-ltb, le-ltb, or_parts}
 use Rattle.std.proofs.lemmas.Bool.Decides.{nat_tests}
 use Rattle.std.specs.List.{position, position_or_len}
-use Rattle.rounds.specs.Rounds.{has, besides, tighter, tightest}
+use Rattle.rounds.specs.Rounds.{has}
 use Rattle.decoder.specs.Area.{to}
 
 -- The place of a slot in a row.
@@ -53,14 +53,3 @@ to_absent s (a ∷ row) [] h = refl
 to_absent s (a ∷ row) (x ∷ msgs) h =
     let r = or_parts (eqb s a) (has s row) h in
     cond-false (eqb s a) x (to s row msgs) r.0 ∙ to_absent s row msgs r.1
-
--- Where a row of three has the slot, one message of three goes to it.
-module _ (s a b c : ℕ) (h : has s (a ∷ (b ∷ (c ∷ []))) ≡ true) where
-  pub to_each : (x : ℕ) → to s (a ∷ (b ∷ (c ∷ []))) (x ∷ (x ∷ (x ∷ []))) ≡ x
-  to_each x = grind (arith, nat_tests)
-
-  -- the one that is made of the replies of the other two slots
-  pub to_others : (up : Bool) (f : ℕ → ℕ) → a < b → b < c →
-      to s (a ∷ (b ∷ (c ∷ []))) (tighter up (f b) (f c) ∷ (tighter up (f a) (f c) ∷ (tighter up (f a) (f b) ∷ [])))
-      ≡ tightest up (map f (besides s (a ∷ (b ∷ (c ∷ [])))))
-  to_others up f ab bc = grind (arith, nat_tests)

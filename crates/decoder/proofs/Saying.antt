@@ -1,13 +1,20 @@
 -- One more claimant has sent its messages, and has its bound in a table.
-use Rattle.std.proofs.Common.{◌≡◌, ℕ, ◌+◌, ◌<◌, Bool, true, ◌≢◌, List, [], ◌∷◌, map, length, get_or, set, sym, refl, ap, ◌∙◌, subst, arith, get_or-set_other, get_or-set_same, below_more}
+use Rattle.std.proofs.Common.{◌≡◌, ℕ, ◌+◌, ◌<◌, ◌≤◌, Bool, true, false, ◌≢◌, List, [], ◌∷◌, map, length, get_or, set, sym, refl, ap, ◌∙◌, subst, arith, get_or-set_other, get_or-set_same, below_more}
 use Rattle.std.proofs.lemmas.Bool.{both_ways}
-use Rattle.rounds.specs.Rounds.{Claimant, row_of, floor_of, besides, filled, Uses, TakesPart, tighter, tightest}
+use Rattle.rounds.specs.Rounds.{Claimant, row_of, floor_of, besides, filled, Uses, TakesPart, tightest}
 use Rattle.rounds.proofs.Rows.{has_filled, filled_has, uses_inside}
-use Rattle.wiring.specs.Rising.{is_row}
+use Rattle.rounds.specs.Laws.{Distinct}
 use Rattle.decoder.specs.Decoding.{Absent, Tabled}
-use Rattle.decoder.specs.Area.{to}
-use Rattle.decoder.proofs.Wired.{row_three}
-use Rattle.decoder.proofs.Messages.{to_each, to_others}
+use Rattle.decoder.specs.Area.{to, but}
+use Rattle.decoder.proofs.Gathering.{place, place_inside, to_place, three_at, but_none, but_besides}
+
+long_filled : (row : List ℕ) → 0 < length row → filled row ≡ true
+long_filled [] h = absurd (omega arith)
+long_filled (a ∷ row) h = refl
+
+short_filled : (row : List ℕ) → length row ≤ 0 → filled row ≡ false
+short_filled [] h = refl
+short_filled (a ∷ row) h = absurd (omega arith)
 
 -- The first n claimants have sent their messages and have their bounds in a table, which is as before where nobody takes part.
 pub record Said (cs : List Claimant) (message : ℕ → ℕ → ℕ) (bound : ℕ → ℕ) (msgs : List (List ℕ)) (before table : List ℕ) (n : ℕ) : Type 0 where
@@ -52,45 +59,34 @@ module _ {cs : List Claimant} {message : ℕ → ℕ → ℕ} {bound : ℕ → �
       kept = done.kept;
     }
 
--- What is made of the replies f of the other two slots, for each slot of a row.
-abbrev pub rest_of : Bool → (ℕ → ℕ) → List ℕ → List ℕ
-rest_of up f row =
-    let x = f (get_or row 0 0) in
-    let y = f (get_or row 1 0) in
-    let z = f (get_or row 2 0) in
-    tighter up y z ∷ (tighter up x z ∷ (tighter up x y ∷ []))
+-- A claimant with slots takes part, and one without does not.
+module _ (cs : List Claimant) (i : ℕ) (row : List ℕ) (is : row ≡ row_of cs i) where
+  pub part_of : 0 < length row → TakesPart cs i
+  part_of some = subst (λ l. filled l ≡ true) is (long_filled row some)
 
--- A claimant on a row takes part, and one without slots does not.
-module _ (cs : List Claimant) (i : ℕ) where
-  pub part_of : (row : List ℕ) → is_row row ≡ true → row_of cs i ≡ row → TakesPart cs i
-  part_of row r is = let t = row_three row r in ap filled (is ∙ t.3)
+  pub absent_of : length row ≤ 0 → Absent cs i
+  absent_of none = subst (λ l. filled l ≡ false) is (short_filled row none)
 
-  pub absent_of : row_of cs i ≡ [] → Absent cs i
-  absent_of is = ap filled is
+  module _ (short : length row ≤ 3) where
+    inside : (s : ℕ) → Uses cs i s → place s (row_of cs i) < 3
+    inside s on = omega (arith, place_inside s (row_of cs i) on, ap length is)
 
-  -- What it says in round 0.
-  pub says_floor : (row : List ℕ) → is_row row ≡ true → row_of cs i ≡ row → (x : ℕ) → floor_of cs i ≡ x →
-      (s : ℕ) → Uses cs i s → to s (row_of cs i) (x ∷ (x ∷ (x ∷ []))) ≡ floor_of cs i
-  says_floor row r is x e s on =
-      let t = row_three row r in
-      let same : row_of cs i ≡ t.0 ∷ (t.1 ∷ (t.2 ∷ [])) = is ∙ t.3 in
-      rw same (to_each s t.0 t.1 t.2 (rw same at on) x) ∙ sym e
+    -- What it says in round 0.
+    pub says_floor : (x : ℕ) → floor_of cs i ≡ x → (s : ℕ) → Uses cs i s → to s (row_of cs i) (x ∷ (x ∷ (x ∷ []))) ≡ floor_of cs i
+    says_floor x e s on = to_place s (row_of cs i) _ on ∙ three_at (λ p. x) _ (inside s on) ∙ sym e
 
-  -- What it says after the replies f to its slots.
-  pub says_others : (row : List ℕ) → is_row row ≡ true → row_of cs i ≡ row → (up : Bool) (f : ℕ → ℕ) →
-      (s : ℕ) → Uses cs i s → to s (row_of cs i) (rest_of up f row) ≡ tightest up (map f (besides s (row_of cs i)))
-  says_others row r is up f s on =
-      let t = row_three row r in
-      let same : row_of cs i ≡ t.0 ∷ (t.1 ∷ (t.2 ∷ [])) = is ∙ t.3 in
-      let told : to s (row_of cs i) (rest_of up f (t.0 ∷ (t.1 ∷ (t.2 ∷ [])))) ≡ tightest up (map f (besides s (row_of cs i))) =
-      rw same (to_others s t.0 t.1 t.2 (rw same at on) up f t.4 t.5) in
-      subst (λ l. to s (row_of cs i) (rest_of up f l) ≡ tightest up (map f (besides s (row_of cs i)))) (sym t.3) told
+    -- What it says after the replies f to its slots, and its bound then.
+    module _ (up : Bool) (f : ℕ → ℕ) (replies : List ℕ) (e : replies ≡ map f row) where
+      all : replies ≡ map f (row_of cs i)
+      all = e ∙ ap (map f) is
 
-  -- And its bound then.
-  pub bound_of : (row : List ℕ) → is_row row ≡ true → row_of cs i ≡ row → (up : Bool) (f : ℕ → ℕ) →
-      tighter up (f (get_or row 0 0)) (tighter up (f (get_or row 1 0)) (f (get_or row 2 0))) ≡ tightest up (map f (row_of cs i))
-  bound_of row r is up f =
-      let t = row_three row r in
-      let told : (l : List ℕ) → l ≡ t.0 ∷ (t.1 ∷ (t.2 ∷ [])) → tighter up (f (get_or l 0 0)) (tighter up (f (get_or l 1 0)) (f (get_or l 2 0))) ≡ tightest up (map f l) =
-      λ l e. rw e refl in
-      told row t.3 ∙ ap (λ l. tightest up (map f l)) (sym is)
+      pub says_others : Distinct row → (s : ℕ) → Uses cs i s →
+          to s (row_of cs i) (tightest up (but 0 replies) ∷ (tightest up (but 1 replies) ∷ (tightest up (but 2 replies) ∷ [])))
+          ≡ tightest up (map f (besides s (row_of cs i)))
+      says_others apart s on =
+          to_place s (row_of cs i) _ on ∙ three_at (λ p. tightest up (but p replies)) _ (inside s on)
+          ∙ ap (λ l. tightest up (but (place s (row_of cs i)) l)) all
+          ∙ ap (tightest up) (but_besides f s (row_of cs i) (subst Distinct is apart) on)
+
+      pub bound_of : (n : ℕ) → length replies ≤ n → tightest up (but n replies) ≡ tightest up (map f (row_of cs i))
+      bound_of n le = ap (tightest up) (but_none n replies le ∙ all)

@@ -1,9 +1,10 @@
 -- What the rounds take from the types of their inputs: rows of three slots that rise, and small floors and spans.
-use Rattle.std.proofs.Common.{◌≡◌, ℕ, zero, suc, ◌^◌, ◌<◌, ◌≤◌, Bool, true, false, eqb, ltb, List, [], ◌∷◌, map, length, get_or, Some, None, Option, is_some, sym, refl, ap, ◌∙◌, arith}
-use Rattle.std.proofs.lemmas.Bool.{and_parts, eqb-true, ltb-true}
+use Rattle.std.proofs.Common.{◌≡◌, ℕ, zero, suc, ◌^◌, ◌<◌, ◌≤◌, Bool, true, false, eqb, ltb, List, [], ◌∷◌, map, length, get_or, Some, None, Option, sym, refl, ap, ◌∙◌, arith}
+use Rattle.std.proofs.lemmas.Bool.{and_parts, eqb-true, ltb-true, ne_eqb, or_from}
 use Rattle.std.proofs.lemmas.List.{get_or-map, length-map}
-use Rattle.wiring.specs.Rising.{rising, is_row}
-use Rattle.rounds.specs.Rounds.{Claimant, nobody, row_of, floor_of, besides, edge, odd, message}
+use Rattle.wiring.specs.Rising.{rising}
+use Rattle.rounds.specs.Rounds.{Claimant, nobody, row_of, floor_of, has, besides, edge, odd, message}
+use Rattle.rounds.specs.Laws.{Distinct}
 use Rattle.rounds.proofs.Tightest.{tightest_most}
 use Rattle.decoder.specs.declared.claims.Claim.{Claim}
 use Rattle.decoder.specs.declared.claims.Claims.{Claims}
@@ -61,26 +62,25 @@ message_small claims spans zero i s = floors_small claims i
 message_small claims spans (suc t) i s = tightest_most (odd (suc t)) _ (2 ^ 40) (besides s (row_of (claimants claims) i))
     (λ a _. omega (arith, floors_small claims i, edges_small spans (odd (suc t)) a))
 
--- A row is three slots that rise.
-pub row_three : (row : List ℕ) → is_row row ≡ true → (a : ℕ) × (b : ℕ) × (c : ℕ) × (row ≡ a ∷ (b ∷ (c ∷ []))) × (a < b) × (b < c)
-row_three row r =
-    let p = and_parts (eqb (length row) 3) (rising row) r in
-    three row (eqb-true (length row) 3 p.0) p.1
-  where
-    three : (xs : List ℕ) → length xs ≡ 3 → rising xs ≡ true → (a : ℕ) × (b : ℕ) × (c : ℕ) × (xs ≡ a ∷ (b ∷ (c ∷ []))) × (a < b) × (b < c)
-    three [] l h = absurd (omega arith)
-    three (a ∷ []) l h = absurd (omega arith)
-    three (a ∷ (b ∷ [])) l h = absurd (omega arith)
-    three (a ∷ (b ∷ (c ∷ []))) l h =
-        let p = and_parts (ltb a b) (rising (b ∷ (c ∷ []))) h in
-        (a, b, c, refl, ltb-true a b p.0, ltb-true b c (and_parts (ltb b c) true p.1).0)
-    three (a ∷ (b ∷ (c ∷ (d ∷ xs)))) l h = absurd (omega arith)
+-- Slots that rise are apart, and a row has three at most: the one place that knows how rows are made.
 
--- An entry with a row takes part, and one without has no slots.
-pub some_row : (row : Option (List ℕ)) → true ≡ is_some row → rises row ≡ true → is_row (slots_in row) ≡ true
-some_row None t r = cc
-some_row (Some row) t r = r
+above : (a b : ℕ) (row : List ℕ) → a < b → rising (b ∷ row) ≡ true → has a (b ∷ row) ≡ false
+above a b [] lt r = or_from (eqb a b) false (ne_eqb a b (omega arith)) refl
+above a b (c ∷ row) lt r =
+    let p = and_parts (ltb b c) (rising (c ∷ row)) r in
+    or_from (eqb a b) (has a (c ∷ row)) (ne_eqb a b (omega arith)) (above a c row (omega (arith, ltb-true b c p.0)) p.1)
 
-pub no_row : (row : Option (List ℕ)) → false ≡ is_some row → slots_in row ≡ []
-no_row None f = refl
-no_row (Some row) f = cc
+rising_distinct : (row : List ℕ) → rising row ≡ true → Distinct row
+rising_distinct [] r = tt
+rising_distinct (a ∷ []) r = (refl, tt)
+rising_distinct (a ∷ (b ∷ row)) r =
+    let p = and_parts (ltb a b) (rising (b ∷ row)) r in
+    (above a b row (ltb-true a b p.0) p.1, rising_distinct (b ∷ row) p.1)
+
+pub row_short : (row : Option (List ℕ)) → rises row ≡ true → length (slots_in row) ≤ 3
+row_short None r = omega arith
+row_short (Some row) r = omega (arith, eqb-true _ _ (and_parts (eqb (length row) 3) (rising row) r).0)
+
+pub row_distinct : (row : Option (List ℕ)) → rises row ≡ true → Distinct (slots_in row)
+row_distinct None r = tt
+row_distinct (Some row) r = rising_distinct row (and_parts (eqb (length row) 3) (rising row) r).1

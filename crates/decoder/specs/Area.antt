@@ -1,5 +1,5 @@
 -- How the messages of a round stand in the work area: the private functions' contracts.
-use Rattle.std.specs.Prelude.{◌≡◌, ℕ, cond, List, [], ◌∷◌, ◌==◌, slice_index_or}
+use Rattle.std.specs.Prelude.{◌≡◌, ℕ, zero, suc, cond, List, [], ◌∷◌, ◌==◌, slice_index_or}
 use Rattle.rounds.specs.declared.span.Span.{Span}
 use Rattle.rounds.specs.Rounds.{Claimant, row_of, Uses, message}
 
@@ -8,6 +8,12 @@ abbrev pub to : ℕ → List ℕ → List ℕ → ℕ
 to s [] msgs = 0
 to s (a ∷ row) [] = 0
 to s (a ∷ row) (x ∷ msgs) = cond (s == a) x (to s row msgs)
+
+-- A list without its element at a place.
+abbrev pub but : ℕ → List ℕ → List ℕ
+but p [] = []
+but zero (x ∷ xs) = xs
+but (suc p) (x ∷ xs) = x ∷ but p xs
 
 -- The messages of round t stand in an area, those of each claimant side by side.
 abbrev pub Held : List Claimant → (ℕ → Span) → ℕ → List (List ℕ) → Type 0

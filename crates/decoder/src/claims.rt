@@ -34,12 +34,22 @@ impl Default for Claim {
 impl Claim {
     ghost use Rattle.decoder.specs.Area.{to};
 
+    // The slots of its row, none if it takes no part.
+    pub(crate) fn slots(&self) -> &[u16]
+        ensures value { result.now ≡ slots_in self.now.row }
+        ensures short { length result.now ≤ 3 }
+    {
+        match &self.row {
+            Some(row) => row,
+            None => &[],
+        }
+    }
+
     // What it has sent to the slot, 0 if it does not use it.
     pub(crate) fn sent(&self, messages: &[u64; PLACES], slot: u16) -> u64
         ensures { result ≡ to slot (slots_in self.now.row) messages.now }
     {
-        let Some(row) = &self.row else { return 0 };
-        match row.iter().position(|own| *own == slot) {
+        match self.slots().iter().position(|own| *own == slot) {
             Some(place) => messages[place],
             None => 0,
         }

@@ -5,5 +5,5 @@ pub(crate) const ENTRIES: usize = 1024;
 pub(crate) const SLOTS: u16 = 1024;
 // The greatest floor, low and high.
 pub(crate) const CEILING: u64 = 1 << 40;
-// How many slots a row has, and how many messages a claimant sends in a round.
+// The most slots that a row has, and so the most messages that a claimant sends in a round.
 pub(crate) const PLACES: usize = 3;

@@ -1,13 +1,14 @@
 // One round after round 0: what each slot tells each claimant, and what the claimants make of it.
-ghost use Rattle.std.specs.Prelude.{◌≡◌, suc};
-ghost use Rattle.rounds.specs.Rounds.{odd, tighter, rest, reply, message, estimate};
+ghost use Rattle.std.specs.Prelude.{◌≡◌, suc, ◌≤◌, map, length};
+ghost use Rattle.rounds.specs.Rounds.{odd, tighter, tightest, rest, reply, message, estimate};
 ghost use Rattle.decoder.specs.Inputs.{claimants, span_at};
 ghost use Rattle.decoder.specs.Decoding.{Tabled};
-ghost use Rattle.decoder.specs.Area.{Held};
+ghost use Rattle.decoder.specs.Area.{Held, but};
 
 use crate::claims::Claims;
 use crate::limits::{ENTRIES, PLACES};
 use crate::spans::Spans;
+use arrayvec::ArrayVec;
 
 // The messages of a round: those of each claimant, one to each slot of its row.
 pub(crate) type Messages = [[u64; PLACES]; ENTRIES];
@@ -64,18 +65,49 @@ impl Round<'_> {
         share.max(self.claims.floor(i))
     }
 
-    // Each claimant that takes part answers the replies of its slots: each slot with what the two others replied.
+    // The replies of the slots of a row to claimant i, in their order.
+    fn replies(&self, row: &[u16], i: usize) -> ArrayVec<u64, PLACES>
+        requires { length row.now ≤ 3 }
+        ensures { let cs = claimants self.now.claims.now in let spans = span_at self.now.spans.now in
+            result.items ≡ map (reply cs spans (odd (suc self.now.past)) (message cs spans self.now.past) i) row.now }
+    {
+        let mut replies = ArrayVec::new();
+        for slot in row {
+            replies.push(self.reply(*slot, i));
+        }
+        replies
+    }
+
+    // The tightest of the replies but the one at `skip`; of all of them if there is none at that place.
+    fn tightest_but(&self, replies: &[u64], skip: usize) -> u64
+        ensures { result ≡ tightest (odd (suc self.now.past)) (but skip replies.now) }
+    {
+        let mut best = None;
+        for (place, reply) in replies.iter().enumerate() {
+            if place != skip {
+                best = Some(self.tighter(best.unwrap_or(*reply), *reply));
+            }
+        }
+        best.unwrap_or(0)
+    }
+
+    // Each claimant that takes part answers the replies of its slots: each slot with what the others replied.
     pub(crate) fn run(&self, fresh: &mut Messages, bounds: &mut [u64; ENTRIES])
         ensures held { Held (claimants self.now.claims.now) (span_at self.now.spans.now) (suc self.now.past) fresh.new }
         ensures bounds { let cs = claimants self.now.claims.now in
             Tabled cs (estimate cs (span_at self.now.spans.now) (suc self.now.past)) bounds.old bounds.new }
     {
         for (i, claim) in self.claims.entries.as_slice().iter().enumerate() {
-            if let Some(row) = claim.row {
-                let [a, b, c] = row;
-                let [x, y, z] = [self.reply(a, i), self.reply(b, i), self.reply(c, i)];
-                fresh[i] = [self.tighter(y, z), self.tighter(x, z), self.tighter(x, y)];
-                bounds[i] = self.tighter(x, self.tighter(y, z));
+            let row = claim.slots();
+            if !row.is_empty() {
+                let replies = self.replies(row, i);
+                let replies = replies.as_slice();
+                fresh[i] = [
+                    self.tightest_but(replies, 0),
+                    self.tightest_but(replies, 1),
+                    self.tightest_but(replies, 2),
+                ];
+                bounds[i] = self.tightest_but(replies, replies.len());
             }
         }
     }

@@ -18,7 +18,7 @@ fn start(claims: &Claims, messages: &mut Messages, lows: &mut [u64; ENTRIES])
     ensures lows { Tabled (claimants claims.now) (floor_of (claimants claims.now)) lows.old lows.new }
 {
     for (i, claim) in claims.entries.as_slice().iter().enumerate() {
-        if claim.row.is_some() {
+        if !claim.slots().is_empty() {
             messages[i] = [claim.floor; PLACES];
             lows[i] = claim.floor;
         }

@@ -1,9 +1,10 @@
+use Rattle.std.proofs.lemmas.Bool.Decides.{nat_tests}
 use Rattle.std.proofs.Common.{ℕ, List, length, length-set, sym, ap, ◌∙◌, arith}
 use Rattle.decoder.specs.Inputs.{claimants}
-use Rattle.decoder.proofs.Wired.{claims_many, row_is, floor_is, some_row, no_row}
+use Rattle.decoder.proofs.Wired.{claims_many, row_is, floor_is}
 use Rattle.decoder.proofs.Saying.{said_mails, said_bounds, said_skip, said_more, part_of, absent_of, says_floor}
 use Rattle.decoder.proofs.running.start.Goals as goal
-use Rattle.decoder.proofs.running.start.Goals.{then-is_some, else-is_some}
+use Rattle.decoder.proofs.running.start.Goals.{then-not-is_empty, else-not-is_empty}
 
 pub loop-i-preserved : goal.loop-i-preserved
 loop-i-preserved c =
@@ -13,14 +14,14 @@ loop-i-preserved c =
     let x = c.claim-item.result in
     let slots = row_is claims _ i x c.as_slice-claim-items.ensures.value c.loop-i-test.true c.claim-item.is in
     let floor = floor_is claims _ i x c.as_slice-claim-items.ensures.value c.loop-i-test.true c.claim-item.is in
-    elim c.if-is_some.branch [
-      | then-is_some w ↦
-          let rising = some_row x.row w.if-is_some.ensures x.rising in
+    let row = c.slots.ensures.value ∙ sym slots in
+    elim c.if-not-is_empty.branch [
+      | then-not-is_empty w ↦
           rw (w.messages-is, w.lows-is) (said_more c.loop-i.invariant _ x.floor
-          (omega (arith, c.if-is_some.array_long, ap length w.messages-is, length-set {A = List ℕ}))
-          (omega (arith, c.if-is_some.array_long2, ap length w.lows-is, length-set {A = ℕ}))
-          (part_of cs i _ rising slots) (says_floor cs i _ rising slots x.floor floor) (sym floor))
-      | else-is_some w ↦ rw (w.messages-is, w.lows-is) (said_skip c.loop-i.invariant (absent_of cs i (slots ∙ no_row x.row w.if-is_some.ensures)))
+          (omega (arith, c.if-not-is_empty.array_long, ap length w.messages-is, length-set {A = List ℕ}))
+          (omega (arith, c.if-not-is_empty.array_long2, ap length w.lows-is, length-set {A = ℕ}))
+          (part_of cs i _ row (grind (arith, nat_tests))) (says_floor cs i _ row c.slots.ensures.short x.floor floor) (sym floor))
+      | else-not-is_empty w ↦ rw (w.messages-is, w.lows-is) (said_skip c.loop-i.invariant (absent_of cs i _ row (grind (arith, nat_tests))))
     ]
 
 pub returns-clause-held : goal.returns-clause-held
