@@ -1,11 +1,50 @@
--- The tightest of some replies, gathered one by one, and what it is of the replies but one.
-use Rattle.std.proofs.Common.{◌≡◌, ℕ, zero, suc, ◌+◌, ◌<◌, ◌≤◌, Bool, true, false, eqb, ◌≢◌, List, [], ◌∷◌, ◌++◌, map, length, get_or, take, Some, None, Option, unwrap_or, sym, refl, ap, ◌∙◌, inl, inr, arith}
+-- The tightest of some replies, gathered one by one, and what it is of the replies but one; and the message that is found at a slot's place.
+use Rattle.std.proofs.Common.{◌≡◌, ℕ, zero, suc, ◌+◌, ◌<◌, ◌≤◌, Bool, true, false, cond, eqb, ◌≢◌, List, [], ◌∷◌, ◌++◌, map, length, get_or, take, Some, None, Option, unwrap_or, sym, refl, ap, ◌∙◌, inl, inr, arith}
 use Rattle.std.proofs.lemmas.List.{take_more, length-take-le}
 use Rattle.std.proofs.lemmas.Bool.{cases_eq, cond-true, cond-false, eq-eqb, ne_eqb, or_parts, eqb-false}
 use Rattle.rounds.specs.Rounds.{has, besides, tighter, tightest}
 use Rattle.rounds.specs.Laws.{Distinct}
 use Rattle.rounds.proofs.Rows.{has_none, has_cons}
-use Rattle.decoder.specs.Area.{place, but}
+use Rattle.decoder.specs.Area.{but, to}
+
+-- Where slot s stands in a row.
+abbrev pub place : ℕ → List ℕ → ℕ
+place s [] = 0
+place s (a ∷ row) = cond (eqb s a) 0 (suc (place s row))
+
+pub place_inside : (s : ℕ) (row : List ℕ) → has s row ≡ true → place s row < length row
+place_inside s [] h = absurd (has_none s h)
+place_inside s (a ∷ row) h = elim (cases_eq s a) [
+  | inl e ↦ omega (arith, cond-true (eqb s a) 0 (suc (place s row)) (eq-eqb s a e))
+  | inr d ↦ elim (has_cons s a row h) [
+    | inl e ↦ absurd (d e)
+    | inr k ↦ omega (arith, cond-false (eqb s a) 0 (suc (place s row)) (ne_eqb s a d), place_inside s row k)
+  ]
+]
+
+-- What goes to a slot of the row stands at the slot's place.
+pub to_place : (s : ℕ) (row msgs : List ℕ) → has s row ≡ true → to s row msgs ≡ get_or msgs (place s row) 0
+to_place s [] msgs h = absurd (has_none s h)
+to_place s (a ∷ row) [] h = refl
+to_place s (a ∷ row) (x ∷ msgs) h = elim (cases_eq s a) [
+  | inl e ↦
+      let on = eq-eqb s a e in
+      cond-true (eqb s a) x (to s row msgs) on ∙ sym (ap (λ p. get_or (x ∷ msgs) p 0) (cond-true (eqb s a) 0 (suc (place s row)) on))
+  | inr d ↦ elim (has_cons s a row h) [
+    | inl e ↦ absurd (d e)
+    | inr k ↦
+        let off = ne_eqb s a d in
+        cond-false (eqb s a) x (to s row msgs) off ∙ to_place s row msgs k
+        ∙ sym (ap (λ p. get_or (x ∷ msgs) p 0) (cond-false (eqb s a) 0 (suc (place s row)) off))
+  ]
+]
+
+-- Three messages, each by its place.
+pub three_at : (tell : ℕ → ℕ) (p : ℕ) → p < 3 → get_or (tell 0 ∷ (tell 1 ∷ (tell 2 ∷ []))) p 0 ≡ tell p
+three_at tell zero h = refl
+three_at tell (suc zero) h = refl
+three_at tell (suc (suc zero)) h = refl
+three_at tell (suc (suc (suc p))) h = absurd (omega arith)
 
 -- The tightest of some replies, where there are any.
 abbrev pub known : Bool → List ℕ → Option ℕ

@@ -1,8 +1,6 @@
-pub mod Entries
+pub mod Messages
 pub mod Wired
-pub mod Places
-pub mod Sending
+pub mod Sums
 pub mod Gathering
-pub mod Filing
-pub mod Turning
+pub mod Saying
 pub mod Stepping

@@ -1,10 +1,11 @@
--- What the rounds take from the types of their inputs: short rows with no slot twice, and small floors and spans.
-use Rattle.std.proofs.Common.{◌≡◌, ℕ, zero, suc, ◌^◌, ◌<◌, ◌≤◌, Bool, true, false, eqb, ltb, List, [], ◌∷◌, map, length, get_or, take, Some, None, Option, refl, arith}
+-- What the rounds take from the types of their inputs: rows of three slots that rise, and small floors and spans.
+use Rattle.std.proofs.Common.{◌≡◌, ℕ, zero, suc, ◌^◌, ◌<◌, ◌≤◌, Bool, true, false, eqb, ltb, List, [], ◌∷◌, map, length, get_or, Some, None, Option, sym, refl, ap, ◌∙◌, arith}
 use Rattle.std.proofs.lemmas.Bool.{and_parts, eqb-true, ltb-true, ne_eqb, or_from}
-use Rattle.wiring.specs.declared.row.Row.{Row}
-use Rattle.wiring.specs.Rising.{rising, is_row}
-use Rattle.rounds.specs.Rounds.{row_of, floor_of, has, edge}
+use Rattle.std.proofs.lemmas.List.{get_or-map, length-map}
+use Rattle.wiring.specs.Rising.{rising}
+use Rattle.rounds.specs.Rounds.{Claimant, nobody, row_of, floor_of, has, besides, edge, odd, message}
 use Rattle.rounds.specs.Laws.{Distinct}
+use Rattle.rounds.proofs.Tightest.{tightest_most}
 use Rattle.decoder.specs.declared.claims.Claim.{Claim}
 use Rattle.decoder.specs.declared.claims.Claims.{Claims}
 use Rattle.decoder.specs.declared.spans.Ends.{Ends}
@@ -12,48 +13,7 @@ use Rattle.decoder.specs.declared.spans.Spans.{Spans}
 use Rattle.decoder.specs.Limits.{slots_in, rises}
 use Rattle.decoder.specs.Inputs.{claimant_of, claimants, span_of, spans_in, span_at}
 
--- A rising row has no slot twice.
-
-above : (a b : ℕ) (row : List ℕ) → a < b → rising (b ∷ row) ≡ true → has a (b ∷ row) ≡ false
-above a b [] lt r = or_from (eqb a b) false (ne_eqb a b (omega arith)) refl
-above a b (c ∷ row) lt r =
-    let p = and_parts (ltb b c) (rising (c ∷ row)) r in
-    or_from (eqb a b) (has a (c ∷ row)) (ne_eqb a b (omega arith)) (above a c row (omega (arith, ltb-true b c p.0)) p.1)
-
-rising_distinct : (row : List ℕ) → rising row ≡ true → Distinct row
-rising_distinct [] r = tt
-rising_distinct (a ∷ []) r = (refl, tt)
-rising_distinct (a ∷ (b ∷ row)) r =
-    let p = and_parts (ltb a b) (rising (b ∷ row)) r in
-    (above a b row (ltb-true a b p.0) p.1, rising_distinct (b ∷ row) p.1)
-
--- The two facts about a row that the decoder stands on, and the one place that knows how rows are made.
-
-row_short : (row : Row) → is_row row ≡ true → length row ≤ 3
-row_short row r = omega (arith, eqb-true _ _ (and_parts (eqb (length row) 3) (rising row) r).0)
-
-row_distinct : (row : Row) → is_row row ≡ true → Distinct row
-row_distinct row r = rising_distinct row (and_parts (eqb (length row) 3) (rising row) r).1
-
-in_short : (row : Option Row) → rises row ≡ true → length (slots_in row) ≤ 3
-in_short None r = omega arith
-in_short (Some row) r = row_short row r
-
-in_distinct : (row : Option Row) → rises row ≡ true → Distinct (slots_in row)
-in_distinct None r = tt
-in_distinct (Some row) r = row_distinct row r
-
 -- What holds of every entry holds of every claimant, and of nobody.
-
-at_short : (xs : List Claim) (i : ℕ) → length (row_of (map claimant_of xs) i) ≤ 3
-at_short [] i = omega arith
-at_short (x ∷ xs) zero = in_short x.row x.rising
-at_short (x ∷ xs) (suc i) = at_short xs i
-
-at_distinct : (xs : List Claim) (i : ℕ) → Distinct (row_of (map claimant_of xs) i)
-at_distinct [] i = tt
-at_distinct (x ∷ xs) zero = in_distinct x.row x.rising
-at_distinct (x ∷ xs) (suc i) = at_distinct xs i
 
 at_floor : (xs : List Claim) (i : ℕ) → floor_of (map claimant_of xs) i ≤ 2 ^ 40
 at_floor [] i = omega arith
@@ -71,19 +31,56 @@ at_high (x ∷ xs) zero = x.high_small
 at_high (x ∷ xs) (suc s) = at_high xs s
 
 module _ (claims : Claims) where
-  pub rows_short : (i : ℕ) → length (row_of (claimants claims) i) ≤ 3
+  floors_small : (i : ℕ) → floor_of (claimants claims) i ≤ 2 ^ 40
   unfolding claimants
-  rows_short = at_short (take claims.count claims.entries)
+  floors_small = at_floor claims.entries.items
 
-  pub rows_distinct : (i : ℕ) → Distinct (row_of (claimants claims) i)
+  pub claims_many : (xs : List Claim) (n : ℕ) → xs ≡ claims.entries.items → length xs ≤ n → n ≤ length xs → length (claimants claims) ≡ n
   unfolding claimants
-  rows_distinct = at_distinct (take claims.count claims.entries)
+  claims_many xs n same le ge = omega (arith, ap length same, length-map claims.entries.items claimant_of)
 
-  pub floors_small : (i : ℕ) → floor_of (claimants claims) i ≤ 2 ^ 40
-  unfolding claimants
-  floors_small = at_floor (take claims.count claims.entries)
+  -- The entry x that is read at i is claimant i.
+  module _ (xs : List Claim) (i : ℕ) (x : Claim) (same : xs ≡ claims.entries.items) (lt : i < length xs) (is : x ≡ get_or xs i x) where
+    claim_is : get_or (claimants claims) i nobody ≡ claimant_of x
+    unfolding claimants
+    claim_is = rw (← same) (get_or-map claimant_of xs i x nobody lt ∙ ap claimant_of (sym is))
 
-pub edges_small : (spans : Spans) (up : Bool) (s : ℕ) → edge up (span_at spans s) ≤ 2 ^ 40
+    pub row_is : row_of (claimants claims) i ≡ slots_in x.row
+    row_is = ap (λ (c : Claimant). c.row) claim_is
+
+    pub floor_is : floor_of (claimants claims) i ≡ x.floor
+    floor_is = ap (λ (c : Claimant). c.floor) claim_is
+
+edges_small : (spans : Spans) (up : Bool) (s : ℕ) → edge up (span_at spans s) ≤ 2 ^ 40
 unfolding spans_in
-edges_small spans true s = at_high (take spans.count spans.entries) s
-edges_small spans false s = at_low (take spans.count spans.entries) s
+edges_small spans true s = at_high spans.entries.items s
+edges_small spans false s = at_low spans.entries.items s
+
+-- So no message is so large that a sum of them could wrap.
+pub message_small : (claims : Claims) (spans : Spans) (t i s : ℕ) → message (claimants claims) (span_at spans) t i s ≤ 2 ^ 40
+message_small claims spans zero i s = floors_small claims i
+message_small claims spans (suc t) i s = tightest_most (odd (suc t)) _ (2 ^ 40) (besides s (row_of (claimants claims) i))
+    (λ a _. omega (arith, floors_small claims i, edges_small spans (odd (suc t)) a))
+
+-- Slots that rise are apart, and a row has three at most: the one place that knows how rows are made.
+
+above : (a b : ℕ) (row : List ℕ) → a < b → rising (b ∷ row) ≡ true → has a (b ∷ row) ≡ false
+above a b [] lt r = or_from (eqb a b) false (ne_eqb a b (omega arith)) refl
+above a b (c ∷ row) lt r =
+    let p = and_parts (ltb b c) (rising (c ∷ row)) r in
+    or_from (eqb a b) (has a (c ∷ row)) (ne_eqb a b (omega arith)) (above a c row (omega (arith, ltb-true b c p.0)) p.1)
+
+rising_distinct : (row : List ℕ) → rising row ≡ true → Distinct row
+rising_distinct [] r = tt
+rising_distinct (a ∷ []) r = (refl, tt)
+rising_distinct (a ∷ (b ∷ row)) r =
+    let p = and_parts (ltb a b) (rising (b ∷ row)) r in
+    (above a b row (ltb-true a b p.0) p.1, rising_distinct (b ∷ row) p.1)
+
+pub row_short : (row : Option (List ℕ)) → rises row ≡ true → length (slots_in row) ≤ 3
+row_short None r = omega arith
+row_short (Some row) r = omega (arith, eqb-true _ _ (and_parts (eqb (length row) 3) (rising row) r).0)
+
+pub row_distinct : (row : Option (List ℕ)) → rises row ≡ true → Distinct (slots_in row)
+row_distinct None r = tt
+row_distinct (Some row) r = rising_distinct row (and_parts (eqb (length row) 3) (rising row) r).1

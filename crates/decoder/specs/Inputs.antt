@@ -1,5 +1,5 @@
 -- What the decoder's inputs stand for, and which claimants and spans they take.
-use Rattle.std.specs.Prelude.{ℕ, ◌^◌, Bool, true, cond, ◌&&◌, List, [], ◌∷◌, ◌++◌, map, length, take, Ok, Err, Result, nat_le, slice_index_or}
+use Rattle.std.specs.Prelude.{ℕ, ◌^◌, Bool, true, cond, ◌&&◌, List, [], ◌∷◌, ◌++◌, map, length, Ok, Err, Result, nat_le, slice_index_or}
 use Rattle.rounds.specs.declared.span.Span.{Span}
 use Rattle.rounds.specs.Rounds.{Claimant}
 use Rattle.decoder.specs.declared.claims.Claim.{Claim}
@@ -15,17 +15,21 @@ claimant_of claim = record { row = slots_in claim.row; floor = claim.floor }
 
 -- The claimants in their order.
 unfoldable pub claimants : Claims → List Claimant
-claimants claims = map claimant_of (take claims.count claims.entries)
+claimants claims = map claimant_of claims.entries.items
 
 abbrev pub span_of : Ends → Span
 span_of ends = record { low = ends.low; high = ends.high }
 
 -- The spans in the order of their slots.
 unfoldable pub spans_in : Spans → List Span
-spans_in spans = map span_of (take spans.count spans.entries)
+spans_in spans = map span_of spans.entries.items
 
 abbrev pub span_at : Spans → ℕ → Span
 span_at spans s = slice_index_or (spans_in spans) s (record { low = 0; high = 0 })
+
+-- The number of one more entry where there are n, if there is room for it.
+abbrev pub next : ℕ → Result ℕ Unfit
+next n = cond (nat_le 1024 n) (Err Full) (Ok n)
 
 -- What is told where one more entry is brought to n others: its number, or why it is not taken. The refusals have no
 -- numbers that users know, since the layers above bring only entries that fit.

@@ -6,45 +6,21 @@ ghost use Rattle.std.specs.Prelude.{◌≡◌, true, false, length, is_ok};
 ghost use Rattle.decoder.specs.Inputs.{claimants, span_at};
 ghost use Rattle.decoder.specs.Decoding.{told, answer, Decoded};
 
-mod answering;
 pub mod claims;
+mod entries;
 mod limits;
 pub mod refusal;
-mod replying;
+mod round;
 mod running;
 pub mod spans;
 pub mod unfit;
 pub mod work;
 
 use crate::claims::Claims;
-use crate::limits::MESSAGES;
 use crate::refusal::Refusal;
 use crate::running::run;
 use crate::spans::Spans;
-use crate::work::{AREA, ROUNDS, clear};
-
-// The rounds in a work area, which is left clear.
-fn decode_in(
-    claims: &Claims,
-    spans: &Spans,
-    rounds: u16,
-    area: &mut [u64],
-    lows: &mut [u64],
-    highs: &mut [u64],
-)
-    requires area_room { length area.old ≡ 7168 }
-    requires lows_room { length lows.old ≡ 1024 }
-    requires highs_room { length highs.old ≡ 1024 }
-    ensures { Decoded (claimants claims.now) (span_at spans.now) rounds
-        area.old area.new lows.old lows.new highs.old highs.new }
-{
-    {
-        let (evens, more) = area.split_at_mut(MESSAGES);
-        let (odds, _) = more.split_at_mut(MESSAGES);
-        run(claims, spans, rounds, evens, odds, lows, highs);
-    }
-    clear(area);
-}
+use crate::work::{AREA, admitted};
 
 // The bounds of each claimant that takes part after `rounds` rounds, written into the two tables.
 // It works in the first 7,168 numbers of the lent area, whatever they hold, and leaves them 0.
@@ -62,12 +38,7 @@ pub fn decode(
     ensures decoded { is_ok result ≡ true → Decoded (claimants claims.now) (span_at spans.now) rounds
         work.old work.new lows.old lows.new highs.old highs.new }
 {
-    if rounds > ROUNDS {
-        return Err(Refusal::Rounds);
-    }
-    if work.len() < AREA {
-        return Err(Refusal::Area);
-    }
-    decode_in(claims, spans, rounds, &mut work[0..AREA], lows, highs);
+    admitted(rounds, work.len())?;
+    run(claims, spans, rounds, &mut work[..AREA], lows, highs);
     Ok(rounds)
 }

@@ -5,7 +5,5 @@ pub(crate) const ENTRIES: usize = 1024;
 pub(crate) const SLOTS: u16 = 1024;
 // The greatest floor, low and high.
 pub(crate) const CEILING: u64 = 1 << 40;
-// How many messages a claimant has room for, one for each slot of its row.
+// The most slots that a row has, and so the most messages that a claimant sends in a round.
 pub(crate) const PLACES: usize = 3;
-// How many messages one round has room for. Two rounds leave the last 1,024 numbers of the work area free.
-pub(crate) const MESSAGES: usize = 3072;

@@ -30,16 +30,13 @@ fn closed(totals: &[u64]) -> Result<Spans, Fail> {
 // A table has these answers, and behind them what it had.
 fn table_is(rt: &impl Abort, table: &[u64], answers: &[u64]) {
     for (i, number) in table.iter().enumerate() {
-        let expected = if i < answers.len() { answers[i] } else { TABLE };
-        assert!(rt; *number == expected);
+        assert!(rt; *number == answers.get(i).copied().unwrap_or(TABLE));
     }
 }
 
 fn area_is_clear(rt: &impl Abort, work: &[u64]) {
-    for (k, number) in work.iter().enumerate() {
-        let expected = if k < 7168 { 0 } else { WORK };
-        assert!(rt; *number == expected);
-    }
+    assert!(rt; work.iter().take(7168).all(|number| *number == 0));
+    assert!(rt; work.iter().skip(7168).all(|number| *number == WORK));
 }
 
 // Decodes, and holds every number of the tables and of the area against what it should be.

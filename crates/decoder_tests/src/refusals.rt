@@ -11,9 +11,7 @@ use wiring::row::Row;
 const CEILING: u64 = 1 << 40;
 
 fn all_nine(rt: &impl Abort, numbers: &[u64]) {
-    for number in numbers {
-        assert!(rt; *number == 9);
-    }
+    assert!(rt; numbers.iter().all(|number| *number == 9));
 }
 
 // A decoding in this area is refused, and touches nothing.

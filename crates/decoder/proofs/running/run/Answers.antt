@@ -1,20 +1,19 @@
-use Rattle.std.proofs.Common.{arith}
-use Rattle.decoder.proofs.Stepping.{begun_stands, begun_ends}
+use Rattle.std.proofs.Common.{add-one}
+use Rattle.decoder.proofs.Stepping.{even_of, odd_of, evens_held, odds_held, stepped_odd, stepped_even}
 use Rattle.decoder.proofs.running.run.Goals as goal
+use Rattle.decoder.proofs.running.run.Goals.{then-past-eq0, else-past-eq0}
 
-pub repeat-requires : goal.repeat-requires
-repeat-requires c = record {
-  evens_room = omega arith;
-  odds_room = omega arith;
-  lows_room = omega arith;
-  highs_room = omega arith;
-  begun = begun_stands c.args.claims.now c.args.spans.now
-      c.start.new.msgs c.args.lows.now c.start.new.lows c.start.ensures c.args.odds.now c.args.highs.now;
-}
+pub invariant_of-round : goal.invariant_of-round
+invariant_of-round c = record { held = evens_held c.loop-past.invariant (even_of _ c.if-past-eq0.true) }
 
-pub returns : goal.returns
-returns c =
-    let end = c.repeat.new in
-    begun_ends c.args.claims.now c.args.spans.now
-    c.start.new.msgs c.args.lows.now c.start.new.lows c.start.ensures
-    c.args.rounds end.evens end.odds end.lows c.args.highs.now end.highs c.repeat.ensures
+pub invariant_of-round-else-past-eq0 : goal.invariant_of-round-else-past-eq0
+invariant_of-round-else-past-eq0 c = record { held = odds_held c.loop-past.invariant (odd_of _ c.if-past-eq0.false) }
+
+pub loop-past-preserved : goal.loop-past-preserved
+loop-past-preserved c =
+    elim c.if-past-eq0.branch [
+      | then-past-eq0 w ↦ rw (add-one, w.evens-is, w.odds-is, w.lows-is, w.highs-is)
+          (stepped_odd c.loop-past.invariant (even_of _ w.if-past-eq0.true) _ _ w.run.ensures.held w.run.ensures.bounds)
+      | else-past-eq0 w ↦ rw (add-one, w.evens-is, w.odds-is, w.lows-is, w.highs-is)
+          (stepped_even c.loop-past.invariant (odd_of _ w.if-past-eq0.false) _ _ w.run-else-past-eq0.ensures.held w.run-else-past-eq0.ensures.bounds)
+    ]
