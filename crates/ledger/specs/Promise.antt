@@ -47,6 +47,16 @@ Left any work left = MatchBool any (((k : ℕ) → k < 7168 → slice_index left
 abbrev pub Worked : List Said → List ℕ → List ℕ → Type 0
 Worked said work left = Left (some_settled said) work left
 
+-- one call: it is answered as the ledger answers it, and the braid is what the ledger says after it
+pub record Served {S : Type 0} (m : Meaning S) (depth : ℕ) (L : Ledger) (call : Asked) (said : Said) (s : Braid S) (work left : List ℕ) : Type 0 where
+  pub answers : said ≡ answer L call
+  pub stands : Stands m depth (after L call) s
+  pub worked : Worked (said ∷ []) work left
+
+-- so it is for whatever ledger the braid stood before the call
+abbrev pub Serves : {S : Type 0} → Meaning S → Braid S → Asked → Said → Braid S → List ℕ → List ℕ → Type 0
+Serves m s call said t work left = (depth : ℕ) (L : Ledger) → Stands m depth L s → Served m depth L call said t work left
+
 pub record Promise {S : Type 0} (m : Meaning S) (depth beneath : ℕ) (calls : List Asked) (said : List Said) (s : Braid S) (work left : List ℕ) : Type 0 where
   -- every call is answered as the ledger answers that is fed this very list, denied calls among them
   pub answers : said ≡ answers (opened beneath) calls
@@ -57,13 +67,3 @@ pub record Promise {S : Type 0} (m : Meaning S) (depth beneath : ℕ) (calls : L
   pub ruled : Ruled m depth (closing (opened beneath) calls) s
   pub closes : Closes m depth (closing (opened beneath) calls) s
   pub worked : Worked said work left
-
--- one call: it is answered as the ledger answers it, and the braid is what the ledger says after it
-pub record Served {S : Type 0} (m : Meaning S) (depth : ℕ) (L : Ledger) (call : Asked) (said : Said) (s : Braid S) (work left : List ℕ) : Type 0 where
-  pub answers : said ≡ answer L call
-  pub stands : Stands m depth (after L call) s
-  pub worked : Worked (said ∷ []) work left
-
--- so it is for whatever ledger the braid stood before the call
-abbrev pub Serves : {S : Type 0} → Meaning S → Braid S → Asked → Said → Braid S → List ℕ → List ℕ → Type 0
-Serves m s call said t work left = (depth : ℕ) (L : Ledger) → Stands m depth L s → Served m depth L call said t work left

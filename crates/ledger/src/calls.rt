@@ -15,6 +15,7 @@ pub enum Call<'a> {
     Settle { rounds: u16, room: usize },
 }
 
+// What an accepted call did.
 #[derive(Clone, Copy, PartialEq, Eq, Debug)]
 pub enum Done {
     // the new slot's number

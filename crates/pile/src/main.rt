@@ -63,10 +63,7 @@ fn one_braid(rt: &HostRuntime, depth: Depth, work: &mut [u64]) -> anyhow::Result
 }
 
 // A braid with so many slots, each on three neighbours below.
-fn stacked<S: Store>(below: S, depth: Depth, slots: u16) -> anyhow::Result<Braid<S>>
-where
-    S: Drop,
-{
+fn stacked<S: Store + Drop>(below: S, depth: Depth, slots: u16) -> anyhow::Result<Braid<S>> {
     let mut braid = Braid::new(below, depth);
     for i in 0..slots {
         let row = Row::new(i, i.saturating_add(1), i.saturating_add(2))

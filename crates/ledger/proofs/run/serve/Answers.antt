@@ -1,4 +1,4 @@
-use Rattle.std.proofs.Common.{◌≤◌, length, arith, length-take, sym}
+use Rattle.std.proofs.Common.{◌≡◌, ◌≤◌, min, length, arith, length-take, sym}
 use Rattle.std.proofs.lemmas.Result.{err_from_is_err_and}
 use Rattle.ledger.proofs.Standing.{wire_serves, add_served, settle_served}
 use Rattle.ledger.proofs.run.serve.Goals as goal
@@ -22,6 +22,7 @@ returns-in_ok-settle-in-Settle g c =
     let said = c.in_ok-settle-in-Settle.ensures in
     let work = c.args.work.now in
     let n = c.min-many.result in
-    let inside : n ≤ length work = omega (arith, c.min-many.ensures) in
-    rw (c.in-Settle.is, sym c.min-many.ensures) (λ depth L stands. settle_served g.S.Store.meaning g.S.Store.laws _ _ depth L stands _ n _ work _ inside
+    let heeded : min (length work) c.in-Settle.room ≡ n = sym c.min-many.ensures in
+    let inside : n ≤ length work = omega (arith, heeded) in
+    rw (c.in-Settle.is, heeded) (λ depth L stands. settle_served g.S.Store.meaning g.S.Store.laws _ _ depth L stands _ n _ work _ inside
     (omega (arith, c.settle.auto.work, length-take n work)) said.settles said.wiring said.beneath)
