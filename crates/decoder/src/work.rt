@@ -13,6 +13,7 @@ pub const AREA: usize = 7168;
 // The rounds, if so many can be asked for and `room` numbers are enough of a work area.
 pub fn admitted(rounds: u16, room: usize) -> Result<u16, Refusal>
     ensures answer { told result ≡ answer rounds room }
+    ensures few { OnOk result (rounds ≤ 2048) }
     ensures enough { OnOk result (7168 ≤ room) }
 {
     if rounds > ROUNDS {

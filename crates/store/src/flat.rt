@@ -7,7 +7,7 @@ ghost use Rattle.store.specs.Refusals.{told};
 
 use crate::refusal::Refusal;
 use crate::store::{CEILING, Store};
-use decoder::work::{AREA, ROUNDS};
+use decoder::work::{AREA, admitted};
 use rounds::span::Span;
 use std::marker::Model;
 
@@ -103,12 +103,7 @@ impl<'a> Store for Flat<'a> {
         ensures settles { Live flat_meaning self.old → Settles flat_meaning self.old self.new count work.old work.new (told result) }
         ensures behind { behind self.new ≡ behind self.old }
     {
-        if count > ROUNDS {
-            return Err(Refusal::Rounds);
-        }
-        if work.len() < AREA {
-            return Err(Refusal::Work);
-        }
+        admitted(count, work.len())?;
         work[..AREA].fill(0);
         self.rounds = count;
         Ok(count)

@@ -7,8 +7,8 @@ pub returns-clause-settles : goal.returns-clause-settles
 returns-clause-settles c = rw (← c.self.view_is) (λ live.
     let area = c.fill.new.self in
     record {
-      many = λ h. absurd (omega arith);
-      short = λ h k. absurd (omega arith);
+      many = λ h. absurd (omega (arith, c.in_ok-admitted.ensures.few));
+      short = λ h k. absurd (omega (arith, c.in_ok-admitted.ensures.enough));
       settled = λ h k.
           let long : length area ≡ 7168 = omega (arith, c.fill.ensures.len, length-take 7168 c.args.work.now) in
           record {
