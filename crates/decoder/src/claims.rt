@@ -63,6 +63,7 @@ fn reaches(slots: &[u16]) -> bool
     slots.iter().all(|slot| *slot < SLOTS)
 }
 
+// The claimants in the order of their numbers.
 #[derive(Drop)]
 pub struct Claims {
     pub(crate) entries: ArrayVec<Claim, ENTRIES>,

@@ -47,6 +47,7 @@ pub(crate) fn run(
     let (odds, _) = rows.split_first_chunk_mut::<ENTRIES>().unwrap();
     start(claims, evens, lows);
     for past in 0..rounds {
+        // Two arms, since the check does not cover references that are chosen in one place and used in another.
         if past % 2 == 0 {
             let round = Round {
                 claims,

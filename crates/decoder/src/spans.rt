@@ -6,7 +6,7 @@ use crate::limits::{CEILING, ENTRIES};
 use crate::unfit::Unfit;
 use arrayvec::ArrayVec;
 
-// One slot's span. It isn't the `Span` of `rounds`, since that one has no limits.
+// One slot's span: a type of its own, since the `Span` of `rounds` has no limits.
 #[derive(Clone, Copy)]
 pub(crate) struct Ends {
     low: u64,
@@ -21,6 +21,7 @@ impl Default for Ends {
     }
 }
 
+// The spans in the order of their slots.
 #[derive(Drop)]
 pub struct Spans {
     entries: ArrayVec<Ends, ENTRIES>,
