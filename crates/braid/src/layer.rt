@@ -12,6 +12,8 @@ use store::refusal::Refusal;
 use wiring::depth::Depth;
 use wiring::row::Row;
 
+// Tables side by side with one count, and bits as numbers: without a heap they are a braid's own, all zero at first,
+// and the decoder is lent two of them whole.
 #[derive(Clone, Copy)]
 pub struct Layer {
     pub(crate) parts: [u16; 1024],

@@ -19,6 +19,7 @@ impl Refusal {
     pub fn number(&self) -> u8
         ensures { result ≡ number self.now }
     {
+        // by a match, since a case that carries a value has no discriminant
         match self {
             Refusal::Weighted => 6,
             Refusal::Full => 7,

@@ -11,6 +11,7 @@ use wiring::row::Row;
 // A braid of depth 2 whose slot i has the row i, i + 1, i + 2.
 fn stairs<S: Store + Drop>(rt: &impl Abort, below: S, many: u16) -> Result<Braid<S>, Fail> {
     let mut braid = Braid::new(below, Depth::new(2)?);
+    // the number is what the row is made of
     for i in 0..many {
         let row = Row::new(i, i.saturating_add(1), i.saturating_add(2))?;
         assert_eq!(rt; braid.wire(row)?, i);

@@ -39,16 +39,14 @@ impl Claim {
         ensures value { result.now ≡ slots_in self.now.row }
         ensures short { length result.now ≤ 3 }
     {
-        match &self.row {
-            Some(row) => row,
-            None => &[],
-        }
+        self.row.as_ref().map_or(&[], |row| row.as_slice())
     }
 
     // What it has sent to the slot, 0 if it does not use it.
     pub(crate) fn sent(&self, messages: &[u64; PLACES], slot: u16) -> u64
         ensures { result ≡ to slot (slots_in self.now.row) messages.now }
     {
+        // a match, since with `map_or` no proof was found of what its closure reads
         match self.slots().iter().position(|own| *own == slot) {
             Some(place) => messages[place],
             None => 0,

@@ -16,6 +16,7 @@ use wiring::row::Row;
 fn serve<S: Store>(braid: &mut Braid<S>, call: &Call, work: &mut [u64]) -> Answer
     ensures { Serves S.Store.meaning braid.old (asked (length work.old) call.now) (told result) braid.new work.old work.new }
 {
+    // by the cases of a list of calls, which is data that a caller lends
     match *call {
         Call::Wire { slots } => {
             let row = Row::try_from(slots)?;

@@ -42,6 +42,7 @@ fn show_spans<S: Store>(
     work: &mut [u64],
 ) -> anyhow::Result<()> {
     pile.settle(rounds, work).ok().context("not settled")?;
+    // by number, since a store is asked for one slot at a time
     for slot in 0..pile.slots() {
         let Span { low, high } = pile.span(slot).ok().context("no span")?;
         println!(rt; "rounds {rounds}: slot {slot} holds {low} to {high}")?;
@@ -65,6 +66,7 @@ fn one_braid(rt: &HostRuntime, depth: Depth, work: &mut [u64]) -> anyhow::Result
 // A braid with so many slots, each on three neighbours below.
 fn stacked<S: Store + Drop>(below: S, depth: Depth, slots: u16) -> anyhow::Result<Braid<S>> {
     let mut braid = Braid::new(below, depth);
+    // the number is what the row is made of
     for i in 0..slots {
         let row = Row::new(i, i.saturating_add(1), i.saturating_add(2))
             .ok()

@@ -27,6 +27,7 @@ pub fn spans_of<S: Store>(below: &S) -> Result<Spans, Refusal>
     ensures { Live S.Store.meaning below.now → MatchResult result (λ spans. spans_in spans ≡ listed (S.Store.meaning.slots below.now) (S.Store.meaning.spans below.now (S.Store.meaning.rounds below.now))) (λ _. ⊥) }
 {
     let mut spans = Spans::new();
+    // by number, since a store is asked for one slot at a time
     for slot in 0..below.slots() {
         let span = below.span(slot)?;
         spans.push(span.low, span.high)?;

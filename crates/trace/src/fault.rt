@@ -23,6 +23,7 @@ impl Fault {
     pub fn number(&self) -> u8
         ensures { result ≡ number self.now }
     {
+        // by a match, since cases that carry values have no discriminants
         match self {
             Fault::UnknownKind { .. } => 11,
             Fault::CutShort { .. } => 12,

@@ -53,6 +53,7 @@ impl Counts {
         ensures { (R : Reading) → Lays R trace.now → Surveyed R (record { counts = self.new; outcome = result }) }
     {
         let mut reader = Reader::new(trace);
+        // by a loop, since the end comes as a record, and a fault leaves at once
         loop {
             match reader.next()? {
                 Record::End { place } => return Ok(place),

@@ -32,6 +32,7 @@ fn every_cut(rt: HostRuntime) {
         units: 16777742,
         ..enrol
     };
+    // the number is the cut
     for n in 0..59 {
         let (start, counts) = match n {
             0..=16 => (0, none),

@@ -65,6 +65,7 @@ impl Watcher {
     fn begin(&mut self, at: usize, byte: u8) {
         let part = |body, left| Due::Part { body, left, sum: 0 };
         self.place = at;
+        // by the bytes themselves, since no name is shared with the first reader
         self.due = match byte {
             1 => part(Body::Enrol, 14),
             2 => part(Body::Amount, 12),
