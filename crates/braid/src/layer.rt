@@ -13,7 +13,7 @@ use wiring::depth::Depth;
 use wiring::row::Row;
 
 // Tables side by side with one count, and bits as numbers: without a heap they are a braid's own, all zero at first,
-// and the decoder is lent two of them whole.
+// and the decoder is lent two of them whole. Nobody compares or prints a layer.
 #[derive(Clone, Copy)]
 pub struct Layer {
     pub(crate) parts: [u16; 1024],

@@ -2,13 +2,13 @@
 // bounds, but the total of every slot, and works out the rest from the totals whenever it is asked.
 use std::alloc::{AllocError, Global};
 
-#[derive(Clone, Copy)]
+#[derive(Clone, Copy, PartialEq, Eq, Debug)]
 pub struct Known {
     pub low: u64,
     pub high: u64,
 }
 
-#[derive(Clone, Copy)]
+#[derive(Clone, Copy, PartialEq, Eq, Debug)]
 pub struct Slot {
     pub row: [u16; 3],
     pub total: u64,
@@ -87,7 +87,7 @@ impl Tier {
     }
 
     // What a slot told the slot below in the last round, nothing if it has not run over.
-    fn told(&self, slot: &Slot, sent: &[u64; 3], place: u16) -> u64 {
+    fn sent(&self, slot: &Slot, sent: &[u64; 3], place: u16) -> u64 {
         if self.over(slot) == 0 {
             return 0;
         }
@@ -108,7 +108,7 @@ impl Tier {
             .filter(|(j, _)| *j != i)
             .fold(
                 whole,
-                |left, (_, (slot, sent))| left.saturating_sub(self.told(slot, sent, place)),
+                |left, (_, (slot, sent))| left.saturating_sub(self.sent(slot, sent, place)),
             )
             .max(1)
     }

@@ -18,7 +18,7 @@ pub(crate) struct Claim {
     ghost small: { floor ≤ 2 ^ 40 },
 }
 
-// A claimant that takes no part.
+// A claimant that takes no part. By hand, since a struct with ghost fields has no derived default.
 impl Default for Claim {
     fn default() -> Claim
         ensures row { result.row ≡ None }

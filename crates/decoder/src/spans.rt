@@ -15,6 +15,7 @@ pub(crate) struct Ends {
     ghost high_small: { high ≤ 2 ^ 40 },
 }
 
+// By hand, since a struct with ghost fields has no derived default.
 impl Default for Ends {
     fn default() -> Ends {
         Ends { low: 0, high: 0 }

@@ -2,7 +2,7 @@
 use ledger::calls::{Answer, Call, Done};
 use std::fmt;
 
-#[derive(Clone, Copy)]
+#[derive(Clone, Copy, PartialEq, Eq, Debug)]
 pub struct Told<'a> {
     pub call: &'a Call<'a>,
     pub answer: &'a Answer,

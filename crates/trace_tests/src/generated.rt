@@ -62,24 +62,32 @@ fn made(heap: Global, seed: u64) -> Result<Vec<u8>, AllocError> {
     Ok(trace)
 }
 
-fn flaw(fault: Fault) -> Flaw {
-    match fault {
-        Fault::UnknownKind { .. } => Flaw::NoKind,
-        Fault::CutShort { .. } => Flaw::Short,
-        Fault::AfterEnd { .. } => Flaw::Behind,
-        Fault::NoEnd { .. } => Flaw::Missing,
+// What the first reader finds, in the words of the second.
+impl From<Fault> for Flaw {
+    fn from(fault: Fault) -> Flaw {
+        match fault {
+            Fault::UnknownKind { .. } => Flaw::NoKind,
+            Fault::CutShort { .. } => Flaw::Short,
+            Fault::AfterEnd { .. } => Flaw::Behind,
+            Fault::NoEnd { .. } => Flaw::Missing,
+        }
     }
 }
 
-fn told(survey: &Survey) -> Sighted {
-    Sighted {
-        tally: Tally {
-            enrols: survey.counts.enrols as u64,
-            amounts: survey.counts.amounts as u64,
-            remarks: survey.counts.remarks as u64,
-            units: survey.counts.units,
-        },
-        outcome: survey.outcome.map_err(|fault| (flaw(fault), fault.place())),
+impl From<Survey> for Sighted {
+    fn from(survey: Survey) -> Sighted {
+        let counts = survey.counts;
+        Sighted {
+            tally: Tally {
+                enrols: counts.enrols as u64,
+                amounts: counts.amounts as u64,
+                remarks: counts.remarks as u64,
+                units: counts.units,
+            },
+            outcome: survey
+                .outcome
+                .map_err(|fault| (Flaw::from(fault), fault.place())),
+        }
     }
 }
 
@@ -90,9 +98,9 @@ fn both_readers_agree(rt: HostRuntime) -> Result<(), Fail> {
         let trace = made(rt.alloc(), seed)?;
         let survey = Survey::of(&trace);
         let second = watch(&trace);
-        assert_eq!(rt; told(&survey), second);
+        assert_eq!(rt; Sighted::from(survey), second);
         if let Err(fault) = survey.outcome {
-            assert_eq!(rt; fault.number(), flaw(fault) as u8);
+            assert_eq!(rt; fault.number(), Flaw::from(fault) as u8);
         }
         flaws.push(second.outcome.err().map(|(flaw, _)| flaw))?;
     }

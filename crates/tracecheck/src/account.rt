@@ -2,7 +2,7 @@
 use std::fmt;
 use trace::survey::Survey;
 
-#[derive(Clone, Copy)]
+#[derive(Clone, Copy, PartialEq, Eq, Debug)]
 pub struct Account {
     pub bytes: usize,
     pub survey: Survey,

@@ -46,7 +46,7 @@ impl Row {
     }
 }
 
-// The first three slots: what a table holds in a place that no row was written to.
+// The first three slots: what a table holds in a place that no row was written to. By hand, since zeros are no row.
 impl Default for Row {
     ghost is_default = { λ row. row ≡ 0 ∷ (1 ∷ (2 ∷ [])) };
 
