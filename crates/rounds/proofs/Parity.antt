@@ -1,13 +1,11 @@
 -- The last odd and the last even round up to R.
 use Rattle.std.proofs.Common.{◌≡◌, ℕ, zero, suc, ◌≤◌, Bool, true, false, not, sym, refl, ap, ◌∙◌, inl, inr, arith}
+use Rattle.std.proofs.Math.Bool.{not-not}
 use Rattle.std.proofs.lemmas.Bool.{both_ways, cases_eq, cond_both, cond-true, cond-false, not-true, not-false}
 use Rattle.rounds.specs.Rounds.{odd, last_odd, last_even}
 
 pub not_same : (b c : Bool) → not b ≡ not c → b ≡ c
-not_same true true e = refl
-not_same true false e = sym e
-not_same false true e = sym e
-not_same false false e = refl
+not_same b c e = sym (not-not b) ∙ ap not e ∙ not-not c
 
 pub last_even_even : (R : ℕ) → odd (last_even R) ≡ false
 last_even_even zero = refl

@@ -1,12 +1,13 @@
 -- The small cases that go on for ever: they use the laws, so their rows and amounts are shown to meet what the laws ask.
 use Rattle.std.proofs.Common.{◌≡◌, ℕ, zero, suc, ◌<◌, Bool, true, false, ◌&&◌, leb, ◌≢◌, List, [], ◌∷◌, length, refl, subst, inl, inr, arith}
+use Rattle.std.specs.List.{list_all}
 use Rattle.std.proofs.lemmas.Bool.{both_ways, leb-true, and_parts, cases_eq}
 use Rattle.rounds.specs.declared.span.Span.{Span}
 use Rattle.rounds.specs.Rounds.{Claimant, row_of, floor_of, Uses, load}
 use Rattle.rounds.specs.Laws.{ProperRows, Fitting, NoWider, LooseKnot}
 use Rattle.rounds.specs.Cases.{amounts, twins, twin_spans, TwinsStayOpen, mixed, mixed_spans, MixedCloses}
 use Rattle.rounds.proofs.Rows.{filled_has, uses_inside}
-use Rattle.rounds.proofs.Sweeps.{all_of, all_true}
+use Rattle.rounds.proofs.Sweeps.{all_true}
 use Rattle.rounds.proofs.Holding.{bounds_hold_lem}
 use Rattle.rounds.proofs.Tightening.{more_rounds_tighten_lem}
 use Rattle.rounds.proofs.Closing.{outside_loose_knots_close_lem}
@@ -28,7 +29,7 @@ module _ (cs : List Claimant) (spans : ℕ → Span) (amount : ℕ → ℕ) wher
   spanned s = leb (spans s).low (load cs amount s) && leb (load cs amount s) (spans s).high
 
   abbrev fits : ℕ → Bool
-  fits i = leb (floor_of cs i) (amount i) && all_of spanned (row_of cs i)
+  fits i = leb (floor_of cs i) (amount i) && list_all spanned (row_of cs i)
 
   fitting : every (length cs) fits ≡ true → Fitting cs spans amount
   fitting h = record {
@@ -37,10 +38,10 @@ module _ (cs : List Claimant) (spans : ℕ → Span) (amount : ℕ → ℕ) wher
     highs = λ i s u. leb-true _ _ (both i s u).1;
   }
     where
-      at : (i s : ℕ) → Uses cs i s → (leb (floor_of cs i) (amount i) ≡ true) × (all_of spanned (row_of cs i) ≡ true)
+      at : (i s : ℕ) → Uses cs i s → (leb (floor_of cs i) (amount i) ≡ true) × (list_all spanned (row_of cs i) ≡ true)
       at i s u =
           let passed = every_true (length cs) fits h i (uses_inside cs i s u) in
-          and_parts (leb (floor_of cs i) (amount i)) (all_of spanned (row_of cs i)) passed
+          and_parts (leb (floor_of cs i) (amount i)) (list_all spanned (row_of cs i)) passed
 
       both : (i s : ℕ) → Uses cs i s → (leb (spans s).low (load cs amount s) ≡ true) × (leb (load cs amount s) (spans s).high ≡ true)
       both i s u =

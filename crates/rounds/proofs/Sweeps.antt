@@ -1,6 +1,7 @@
 -- Claimants are released in sweeps, each through a closed slot that no other one still bound uses.
 -- Whoever is bound in the end is in a loose knot, and the end comes within as many sweeps as there are claimants.
 use Rattle.std.proofs.Common.{◌≡◌, ℕ, zero, suc, ◌+◌, ◌<◌, ◌≤◌, Bool, true, false, not, ◌&&◌, ◌||◌, eqb, ◌≢◌, ◌⊎◌, List, [], ◌∷◌, length, refl, ap, ◌∙◌, subst, inl, inr, arith}
+use Rattle.std.specs.List.{list_all}
 use Rattle.std.proofs.lemmas.Bool.{both_ways, eqb-true, eqb-false, cases_eq, not-true, not-false, and_parts, and_cases, and_left, or_cases, or_parts}
 use Rattle.rounds.specs.declared.span.Span.{Span}
 use Rattle.rounds.specs.Rounds.{Claimant, row_of, has, Uses, filled, TakesPart}
@@ -24,19 +25,15 @@ any_none (suc n) p h j k =
     let r = or_parts (p n) (any_below n p) h in
     elim (cases_eq n j) [ inl e ↦ subst (λ z. p z ≡ false) e r.0 | inr d ↦ any_none n p r.1 j (omega arith) ]
 
-abbrev pub all_of : (ℕ → Bool) → List ℕ → Bool
-all_of p [] = true
-all_of p (a ∷ row) = p a && all_of p row
-
-pub all_true : (p : ℕ → Bool) (row : List ℕ) → all_of p row ≡ true → (s : ℕ) → has s row ≡ true → p s ≡ true
+pub all_true : (p : ℕ → Bool) (row : List ℕ) → list_all p row ≡ true → (s : ℕ) → has s row ≡ true → p s ≡ true
 all_true p [] h s k = absurd (has_none s k)
 all_true p (a ∷ row) h s k =
-    let r = and_parts (p a) (all_of p row) h in
+    let r = and_parts (p a) (list_all p row) h in
     elim (has_cons s a row k) [ inl e ↦ ap p e ∙ r.0 | inr u ↦ all_true p row r.1 s u ]
 
-all_false : (p : ℕ → Bool) (row : List ℕ) → all_of p row ≡ false → (s : ℕ) × (has s row ≡ true) × (p s ≡ false)
+all_false : (p : ℕ → Bool) (row : List ℕ) → list_all p row ≡ false → (s : ℕ) × (has s row ≡ true) × (p s ≡ false)
 all_false p [] h = absurd (both_ways true h refl)
-all_false p (a ∷ row) h = elim (and_cases (p a) (all_of p row) h) [
+all_false p (a ∷ row) h = elim (and_cases (p a) (list_all p row) h) [
   | inl e ↦ (a, has_here a row, e)
   | inr u ↦ let r = all_false p row u in (r.0, has_there r.0 a row r.1, r.2)
 ]
@@ -51,7 +48,7 @@ module _ (cs : List Claimant) (spans : ℕ → Span) where
   binds K i s = not (eqb (spans s).low (spans s).high) || any_below (length cs) (other K i s)
 
   abbrev stays : (ℕ → Bool) → ℕ → Bool
-  stays K i = all_of (binds K i) (row_of cs i)
+  stays K i = list_all (binds K i) (row_of cs i)
 
   -- Who is still bound after k sweeps.
   abbrev pub bound : ℕ → ℕ → Bool
