@@ -1,4 +1,5 @@
 pub mod Lists
+pub mod Rows
 pub mod Spreading
 pub mod Listing
 pub mod Sums

@@ -1,6 +1,6 @@
 -- Lists made entry by entry, as loops make them, and what the decoder takes.
-use Rattle.std.proofs.Common.{◌≡◌, ℕ, zero, suc, ◌+◌, ◌<◌, Bool, true, false, cond, ltb, List, [], ◌∷◌, ◌++◌, Ok, Err, Result, refl, ap, ◌∙◌, add-one, arith}
-use Rattle.std.proofs.lemmas.Bool.{and_from, lt-ltb, lt-leb}
+use Rattle.std.proofs.Common.{◌≡◌, ℕ, zero, suc, ◌+◌, ◌<◌, Bool, true, ltb, List, [], ◌∷◌, ◌++◌, Ok, Result, refl, ap, ◌∙◌, add-one, arith}
+use Rattle.std.proofs.lemmas.Bool.{and_from, cond_both, lt-ltb, lt-leb}
 use Rattle.decoder.specs.Inputs.{told}
 use Rattle.decoder.specs.Limits.{reach}
 use Rattle.store.specs.Meaning.{Within}
@@ -23,20 +23,12 @@ reach_within (slot ∷ row) w = and_from (ltb slot 1024) (reach row) (lt-ltb slo
 pub told_taken : (n : ℕ) (small reaches : Bool) → n < 1024 → small ≡ true → reaches ≡ true → told n small reaches ≡ Ok n
 told_taken n small reaches room s r = rw (lt-leb 1024 n room, s, r)
 
--- slots of which a row was made are one, and slots that were refused are none
+-- slots of which a row was made are one
 pub made_row : (slots made : List ℕ) → ◌≡◌ {A = Result (List ℕ) ℕ} (Ok made) (row_from slots) → (is_row slots ≡ true) × (made ≡ slots)
-made_row slots made is = at (is_row slots) refl is
-  where
-    at : (t : Bool) → is_row slots ≡ t → ◌≡◌ {A = Result (List ℕ) ℕ} (Ok made) (cond t (Ok slots) (Err 5)) → (is_row slots ≡ true) × (made ≡ slots)
-    at true one e = (one, (cc))
-    at false one e = let z : ◌≡◌ {A = ℕ} 0 1 = cc in absurd (omega arith)
-
-pub no_row : (slots : List ℕ) (why : ℕ) → ◌≡◌ {A = Result (List ℕ) ℕ} (Err why) (row_from slots) → (is_row slots ≡ false) × (why ≡ 5)
-no_row slots why is = at (is_row slots) refl is
-  where
-    at : (t : Bool) → is_row slots ≡ t → ◌≡◌ {A = Result (List ℕ) ℕ} (Err why) (cond t (Ok slots) (Err 5)) → (is_row slots ≡ false) × (why ≡ 5)
-    at true one e = let z : ◌≡◌ {A = ℕ} 0 1 = cc in absurd (omega arith)
-    at false one e = (one, (cc))
+made_row slots made =
+    cond_both (is_row slots) _ _ (λ r. ◌≡◌ {A = Result (List ℕ) ℕ} (Ok made) r → (is_row slots ≡ true) × (made ≡ slots))
+    (λ one e. (one, (cc)))
+    (λ none e. let z : ◌≡◌ {A = ℕ} 0 1 = cc in absurd (omega arith))
 
 pub same_ok : {X E : Type 0} (x y : X) → ◌≡◌ {A = Result X E} (Ok x) (Ok y) → x ≡ y
 same_ok x y is = cc

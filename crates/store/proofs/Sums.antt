@@ -1,7 +1,6 @@
 -- What reaches the slots of a store from above: how the sums follow the amounts and the rows, and what they come to.
 -- Rows may have any length, as long as none has a slot twice.
-use Rattle.std.proofs.Common.{◌≡◌, ℕ, zero, suc, ◌+◌, ◌*◌, ◌<◌, Bool, true, false, cond, eqb, List, [], ◌∷◌, ◌++◌, length, get_or, replicate, sym, refl, ap, ◌∙◌, subst, inl, inr, suc-mul, arith}
-use lib.ListN.{length-replicate, get_or-replicate}
+use Rattle.std.proofs.Common.{◌≡◌, ℕ, zero, suc, ◌+◌, ◌*◌, ◌<◌, Bool, true, false, cond, eqb, List, [], ◌∷◌, ◌++◌, length, get_or, sym, refl, ap, ◌∙◌, subst, inl, inr, suc-mul, arith}
 use Rattle.std.proofs.lemmas.List.{ext_get_or, get_or-set_same, get_or-set_other, get_or_past, get_or_append_left, length_push}
 use Rattle.std.proofs.lemmas.Bool.{cases_eq, cases_lt, cond-true, cond-false, eq-eqb, ne_eqb}
 use Rattle.rounds.specs.Rounds.{has, sum}
@@ -142,10 +141,6 @@ reaching_none rows a e j = sum_none (length rows) _ (λ i h. cond_zero (has j (g
 
 -- where nothing is brought, nothing reaches a slot
 module _ (N : ℕ) (rows : List (List ℕ)) (a : ℕ → ℕ) (none : (i : ℕ) → i < length rows → a i ≡ 0) where
-  pub sums_none : slot_sums N rows a ≡ replicate N 0
-  sums_none = listed_get_or N (reaching rows a) (replicate N 0) 0 (length-replicate N 0)
-      (λ j h. reaching_none rows a none j ∙ sym (get_or-replicate N j 0 0 h))
-
   pub get_or_sums_none : (j : ℕ) → get_or (slot_sums N rows a) j 0 ≡ 0
   get_or_sums_none j = elim (cases_lt j N) [
     | inl h ↦ get_or_sums N rows a j h ∙ reaching_none rows a none j
