@@ -9,13 +9,13 @@ use Rattle.store.specs.Meaning.{Meaning, Laws, Live, Within, Added, Spread, Spre
 use Rattle.store.specs.Totals.{total, more, spread}
 use Rattle.store.specs.Sums.{slot_sums}
 use Rattle.store.proofs.Lists.{total_more, length_more}
+use Rattle.store.proofs.Rows.{row_distinct}
 use Rattle.store.proofs.Sums.{sums_more, length_sums, total_spread}
 use Rattle.wiring.specs.Rising.{is_row}
 use Rattle.braid.specs.declared.braid.Braid.{Braid}
 use Rattle.braid.specs.declared.layer.Layer.{Layer}
 use Rattle.braid.specs.BraidMeaning.{rows, row, part, raised, modulus, carried, BraidAdmits, BraidSound, braid_meaning}
 use Rattle.braid.specs.Layers.{Room, carry, added}
-use Rattle.braid.specs.Rows.{row_proper}
 use Rattle.braid.proofs.Depths.{modulus_least, quotient_more, remainder_more, raised_by_carry, raised_as_before}
 use Rattle.braid.proofs.Rows.{sums_light}
 
@@ -61,7 +61,7 @@ module _ {S : Type 0} (m : Meaning S) (laws : Laws m) (s : Braid S) (i n : ℕ) 
     sums_after =
         sums_more (m.slots s.below) (rows s.layer) (carried m s.layer T) (carried m s.layer (more T i n)) i (carry s.layer i n)
         (omega (arith, many))
-        (subst Distinct (sym (row_at i within)) (row_proper (row s.layer i) (sound.wired i within).0).1)
+        (subst Distinct (sym (row_at i within)) (row_distinct (row s.layer i) (sound.wired i within).0))
         (subst (Within (m.slots s.below)) (sym (row_at i within)) row_fits)
         grows
         (λ k d. ap (λ x. x / modulus s.layer) (more_there T i n k d))

@@ -1,22 +1,11 @@
 -- The modulus of a depth, and what n units more do to a quotient and a remainder by it.
-use Rattle.std.proofs.Common.{◌≡◌, ℕ, ◌+◌, ◌*◌, ◌/◌, ◌%◌, ◌^◌, ◌<◌, ◌≤◌, Bool, true, false, cond, ◌&&◌, leb, Ok, Err, Result, sym, ap, ◌∙◌, inl, inr, mul-le-mul_right, mod-eq_of_lt, mul-le-mul_left, arith, pow_mono}
+use Rattle.std.proofs.Common.{◌≡◌, ℕ, ◌+◌, ◌*◌, ◌/◌, ◌%◌, ◌^◌, ◌<◌, ◌≤◌, true, leb, sym, ap, ◌∙◌, inl, inr, mod-eq_of_lt, mul-le-mul_left, arith, pow_mono}
 use native.Mathlib.Nat.{mul-add-div, div-add-mod, mod-le, mul-div-le, mod-add-mod}
 use Rattle.std.proofs.lemmas.Nat.{le-div}
 use Rattle.std.proofs.lemmas.Bool.{cases_lt, le-leb, lt-leb}
-use Rattle.wiring.specs.Wiring.{depth_from}
-
-pub made_depth : (b d : ℕ) → ◌≡◌ {A = Result ℕ ℕ} (Ok b) (depth_from d) → b ≡ d
-made_depth b d is = at (leb 2 d && leb d 16) is
-  where
-    at : (t : Bool) → ◌≡◌ {A = Result ℕ ℕ} (Ok b) (cond t (Ok d) (Err 10)) → b ≡ d
-    at true e = cc
-    at false e = let z : ◌≡◌ {A = ℕ} 0 1 = cc in absurd (omega arith)
 
 pub modulus_least : (b : ℕ) → 2 ≤ b → 4 ≤ 2 ^ b
 modulus_least b h = pow_mono {i = 2} {j = b} h
-
-pub modulus_most : (b : ℕ) → b ≤ 16 → 2 ^ b ≤ 65536
-modulus_most b h = pow_mono {i = b} {j = 16} h
 
 module _ (M x n : ℕ) (some : 0 < M) where
   -- what is carried
@@ -43,7 +32,3 @@ module _ (M x n : ℕ) (some : 0 < M) where
         | inl below ↦ lt-leb M (x + n) (omega (arith, mod-eq_of_lt below)) ∙ sym (lt-leb M x below)
         | inr above ↦ le-leb M (x + n) (omega arith) ∙ sym (le-leb M x above)
       ]
-
--- a carry of what fits 16 bits and what fits 32 fits 32
-pub carry_fits : (M x n : ℕ) → 4 ≤ M → x < 2 ^ 16 → n < 2 ^ 32 → (x + n) / M < 2 ^ 32
-carry_fits M x n h p q = omega (arith, mul-div-le (x + n) M, mul-le-mul_right {m = 4} {n = M} ((x + n) / M) h)

@@ -5,9 +5,9 @@ use Rattle.rounds.specs.Rounds.{sum}
 use Rattle.store.specs.Meaning.{Within}
 use Rattle.store.specs.Sums.{slot_sums}
 use Rattle.store.specs.Totals.{total}
+use Rattle.store.proofs.Rows.{row_length, row_distinct}
 use Rattle.store.proofs.Sums.{sum_ext, total_sum, total_sums}
 use Rattle.wiring.specs.Rising.{is_row}
-use Rattle.braid.specs.Rows.{row_proper}
 
 sum_light : (n : ℕ) (f g : ℕ → ℕ) → ((i : ℕ) → i < n → 4 * f i ≤ 3 * g i) → 4 * sum n f ≤ 3 * sum n g
 sum_light zero f g h = omega arith
@@ -21,9 +21,9 @@ sums_light N rows T M four long made within =
     let carried : ℕ → ℕ = λ i. get_or T i 0 / M in
     let quarter : (i : ℕ) → 4 * carried i ≤ get_or T i 0 =
     λ i. omega (arith, mul-div-le (get_or T i 0) M, mul-le-mul_right {m = 4} {n = M} (get_or T i 0 / M) four) in
-    let all = total_sums N rows carried (λ i h. (row_proper (get_or rows i []) (made i h)).1) within in
+    let all = total_sums N rows carried (λ i h. row_distinct (get_or rows i []) (made i h)) within in
     let threes : sum (length rows) (λ i. length (get_or rows i []) * carried i) ≡ sum (length rows) (λ i. 3 * carried i) =
-    sum_ext (length rows) _ _ (λ i h. ap (λ n. n * carried i) (row_proper (get_or rows i []) (made i h)).0) in
+    sum_ext (length rows) _ _ (λ i h. ap (λ n. n * carried i) (row_length (get_or rows i []) (made i h))) in
     let held : total T ≡ sum (length rows) (λ i. get_or T i 0) = total_sum T ∙ ap (λ n. sum n (λ i. get_or T i 0)) long in
     let light = sum_light (length rows) (λ i. 3 * carried i) (λ i. get_or T i 0) (λ i h. omega (arith, quarter i)) in
     omega (arith, all, threes, held, light)

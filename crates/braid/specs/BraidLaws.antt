@@ -1,6 +1,6 @@
 -- A braid over any store that shows the laws shows them too: what it admits lies in its spans, and they tighten with the rounds.
 -- What each raised slot has carried down are amounts that fit the spans below, so the decoding rounds bound them.
-use Rattle.std.specs.Prelude.{◌≡◌, ℕ, zero, suc, ◌+◌, ◌*◌, ◌<◌, ◌≤◌, Bool, true, false, cond, List, [], ◌∷◌, length, get_or, slice_index, slice_index_or, refl}
+use Rattle.std.specs.Prelude.{◌≡◌, ℕ, zero, suc, ◌+◌, ◌*◌, ◌<◌, ◌≤◌, Bool, true, false, cond, List, [], length, get_or, slice_index, slice_index_or, refl}
 use Rattle.std.proofs.Common.{sym, ap, subst, ◌∙◌, inl, inr, mul-le-mul_left, arith, length-take, pow_pos}
 use Rattle.std.proofs.Math.Nat.{div-add-mod, div-eq_of_lt}
 use Rattle.std.proofs.lemmas.Nat.{le-div}
@@ -9,30 +9,19 @@ use Rattle.std.proofs.lemmas.Bool.{both_ways, cases_Bool, cases_lt, cond_both, c
 use Rattle.rounds.specs.declared.span.Span.{Span}
 use Rattle.rounds.specs.Rounds.{Claimant, nobody, row_of, has, Uses, filled, TakesPart, sum, load, Low, High}
 use Rattle.rounds.specs.Laws.{Proper, ProperRows, Fitting, NoWider}
-use Rattle.rounds.proofs.Rows.{has_none, has_cons, uses_part}
+use Rattle.rounds.proofs.Rows.{uses_part}
 use Rattle.rounds.proofs.Holding.{bounds_hold_lem}
 use Rattle.rounds.proofs.Tightening.{more_rounds_tighten_lem}
 use Rattle.store.specs.FlatMeaning.{entry_light}
 use Rattle.store.specs.Meaning.{Meaning, Laws, Within}
 use Rattle.store.specs.Sums.{reaching, slot_sums}
+use Rattle.store.proofs.Rows.{row_proper, row_filled, within_has}
 use Rattle.store.proofs.Sums.{length_listed, get_or_listed, sum_ext, get_or_sums}
 use Rattle.wiring.specs.Rising.{is_row}
 use Rattle.braid.specs.declared.layer.Layer.{Layer}
 use Rattle.braid.specs.declared.braid.Braid.{Braid}
-use Rattle.braid.specs.Rows.{row_proper}
 use Rattle.braid.specs.BraidMeaning.{modulus, rows, row, part, raised, claimant, claimants, top, closed_at}
 use Rattle.braid.specs.BraidMeaning.{carried, BraidAdmits, BraidSound, braid_spans, braid_meaning}
-
-within_has : (N : ℕ) (slots : List ℕ) (slot : ℕ) → Within N slots → has slot slots ≡ true → slot < N
-within_has N [] slot w h = absurd (has_none slot h)
-within_has N (a ∷ slots) slot w h = elim (has_cons slot a slots h) [
-  | inl e ↦ omega (arith, w.0)
-  | inr k ↦ within_has N slots slot w.1 k
-]
-
-filled_long : (slots : List ℕ) → 0 < length slots → filled slots ≡ true
-filled_long [] h = absurd (omega arith)
-filled_long (a ∷ slots) h = refl
 
 -- who the claimants of a layer are
 module _ (l : Layer) where
@@ -96,16 +85,14 @@ module _ (l : Layer) where
     pub proper : ProperRows (claimants l)
     proper i = elim (cases_lt i l.count) [
       | inl h ↦ elim (cases_Bool (raised l i)) [
-        | inl up ↦ subst (λ (slots : List ℕ). Proper slots) (sym (row_raised i h up)) (row_proper (row l i) (wired i h).0).2
+        | inl up ↦ subst (λ (slots : List ℕ). Proper slots) (sym (row_raised i h up)) (row_proper (row l i) (wired i h).0)
         | inr down ↦ subst (λ (c : Claimant). Proper c.row) (sym (claimant_closed i h down)) tt
       ]
       | inr past ↦ subst (λ (c : Claimant). Proper c.row) (sym (claimant_past i past)) tt
     ]
 
     pub raised_takes : (i : ℕ) → i < l.count → raised l i ≡ true → TakesPart (claimants l) i
-    raised_takes i h up =
-        let long = (row_proper (row l i) (wired i h).0).0 in
-        ap filled (row_raised i h up) ∙ filled_long (row l i) (omega arith)
+    raised_takes i h up = ap filled (row_raised i h up) ∙ row_filled (row l i) (wired i h).0
 
     pub uses_within : (i slot : ℕ) → Uses (claimants l) i slot → slot < N
     uses_within i slot u =
