@@ -1,13 +1,14 @@
 -- An admitted list fixes what a braid over a flat table knows: the table can only be the sums of what was
 -- carried, and the rules take nothing else from below.
-use Rattle.std.proofs.Common.{◌≡◌, ℕ, ◌^◌, ◌<◌, ◌≤◌, false, eqb, List, [], ◌∷◌, length, get_or, sym, refl, ap, ◌∙◌, subst, inl, inr, arith}
+use Rattle.std.proofs.Common.{◌≡◌, ℕ, ◌^◌, ◌<◌, List, [], length, get_or, sym, ap, ◌∙◌, subst, inl, inr, arith}
 use Rattle.std.proofs.lemmas.List.{get_or_past, get_or-take}
-use Rattle.std.proofs.lemmas.Bool.{cases_lt, cond-false, ne_eqb, or_from}
+use Rattle.std.proofs.lemmas.Bool.{cases_lt, cond-false, false_from_ne_true}
 use Rattle.rounds.specs.Rounds.{has}
 use Rattle.store.specs.declared.flat.Flat.{Flat}
 use Rattle.store.specs.FlatMeaning.{cells, flat_meaning}
 use Rattle.store.specs.Meaning.{Within}
 use Rattle.store.specs.Sums.{reaching, slot_sums}
+use Rattle.store.proofs.Rows.{within_has}
 use Rattle.store.proofs.Sums.{sum_none, length_sums, get_or_sums}
 use Rattle.braid.specs.declared.braid.Braid.{Braid}
 use Rattle.braid.specs.BraidMeaning.{modulus, rows, closed_at}
@@ -15,13 +16,7 @@ use Rattle.ledger.specs.Rules as rules
 use Rattle.ledger.specs.Fixed.{runs_over, known, Holding, Computed, BuiltAlike, KnownAlike, FixedSpans}
 use Rattle.ledger.proofs.Ruling.{many, same_span}
 
--- a row of slots that are there has none that is not
-has_past : (N slot : ℕ) (slots : List ℕ) → Within N slots → N ≤ slot → has slot slots ≡ false
-has_past N slot [] w h = refl
-has_past N slot (a ∷ slots) w h =
-    or_from (eqb slot a) (has slot slots) (ne_eqb slot a (λ e. omega (arith, w.0))) (has_past N slot slots w.1 h)
-
--- so nothing reaches past the last slot, and the sums of the slots that are there are all sums
+-- nothing reaches past the last slot, and the sums of the slots that are there are all sums
 sums_all : (N : ℕ) (wiring : List (List ℕ)) (amount : ℕ → ℕ) → ((i : ℕ) → i < length wiring → Within N (get_or wiring i []))
     → (slot : ℕ) → get_or (slot_sums N wiring amount) slot 0 ≡ reaching wiring amount slot
 sums_all N wiring amount within slot = elim (cases_lt slot N) [
@@ -30,7 +25,7 @@ sums_all N wiring amount within slot = elim (cases_lt slot N) [
       let row : ℕ → List ℕ = λ i. get_or wiring i [] in
       get_or_past (slot_sums N wiring amount) slot 0 (omega (arith, length_sums N wiring amount))
       ∙ sym (sum_none (length wiring) _ (λ i h.
-      cond-false (has slot (row i)) (amount i) 0 (has_past N slot (row i) (within i h) past)))
+      cond-false (has slot (row i)) (amount i) 0 (false_from_ne_true _ (λ on. omega (arith, within_has N (row i) slot (within i h) on)))))
 ]
 
 module _ (s : Braid Flat) (T : List ℕ) (holding : Holding s T) where

@@ -1,10 +1,8 @@
 -- Lines of a ledger: what one more line, or units more in one, do to the rows and the totals.
-use Rattle.std.proofs.Common.{◌≡◌, ℕ, zero, suc, true, false, ltb, List, [], ◌∷◌, map, Ok, Result, refl, ap, arith}
-use Rattle.std.proofs.lemmas.Bool.{and_from, and_parts, lt-ltb, ltb-true, both_ways, cond_both}
+use Rattle.std.proofs.Common.{◌≡◌, ℕ, zero, suc, true, false, ltb, List, [], ◌∷◌, map, refl, ap}
+use Rattle.std.proofs.lemmas.Bool.{and_from, and_parts, lt-ltb, ltb-true, both_ways}
 use Rattle.store.specs.Meaning.{Within}
 use Rattle.store.specs.Totals.{more}
-use Rattle.wiring.specs.Rising.{is_row}
-use Rattle.wiring.specs.Wiring.{row_from}
 use Rattle.ledger.specs.Ledger.{Line, row_of, total_of, fits, grown}
 
 pub grown_totals : (lines : List Line) (slot n : ℕ) → map total_of (grown lines slot n) ≡ more (map total_of lines) slot n
@@ -29,10 +27,3 @@ within_fits N (slot ∷ row) w = and_from (ltb slot N) (fits N row) (lt-ltb slot
 
 pub fits_not : (N : ℕ) (row : List ℕ) → fits N row ≡ false → Within N row → ⊥
 fits_not N row h w = both_ways (fits N row) h (within_fits N row w)
-
--- slots of which a row was made are one
-pub made_row : (slots made : List ℕ) → ◌≡◌ {A = Result (List ℕ) ℕ} (Ok made) (row_from slots) → (is_row slots ≡ true) × (made ≡ slots)
-made_row slots made =
-    cond_both (is_row slots) _ _ (λ r. ◌≡◌ {A = Result (List ℕ) ℕ} (Ok made) r → (is_row slots ≡ true) × (made ≡ slots))
-    (λ one e. (one, (cc)))
-    (λ none e. let z : ◌≡◌ {A = ℕ} 0 1 = cc in absurd (omega arith))

@@ -4,6 +4,7 @@ use native.Mathlib.Nat.{zero-div}
 use Rattle.std.proofs.lemmas.List.{length-map, map_push, get_or_append_left, drop-append-le, take-append-drop}
 use Rattle.std.proofs.lemmas.Bool.{both_ways}
 use Rattle.store.specs.Meaning.{Meaning, Laws, Live, Within, Adds, Settles}
+use Rattle.store.proofs.Listing.{made_row}
 use Rattle.store.proofs.Sums.{total_sums_none}
 use Rattle.wiring.specs.Rising.{is_row}
 use Rattle.wiring.specs.Wiring.{row_from}
@@ -15,7 +16,7 @@ use Rattle.braid.proofs.Making.{entry_none}
 use Rattle.ledger.specs.Ledger.{Asked, wire, add, settle, Said, wired, added, settled, denied, Line, row_of, total_of, Ledger, rows, totals, weight, answer, entered}
 use Rattle.ledger.specs.Promise.{Stands, Worked, Served, Serves}
 use Rattle.ledger.proofs.Answering.{wire_answers, add_answers, settle_answers}
-use Rattle.ledger.proofs.Lines.{grown_totals, grown_rows, fits_within, fits_not, made_row}
+use Rattle.ledger.proofs.Lines.{grown_totals, grown_rows, fits_within, fits_not}
 
 -- what a result of a call says
 abbrev pub said_by : (ℕ → Said) → Result ℕ ℕ → Said
