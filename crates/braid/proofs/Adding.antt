@@ -2,19 +2,17 @@
 -- was admitted is admitted afterwards with the units in it.
 use Rattle.std.proofs.Common.{◌≡◌, ℕ, ◌+◌, ◌*◌, ◌/◌, ◌%◌, ◌^◌, ◌<◌, ◌≤◌, true, eqb, leb, List, [], ◌∷◌, length, get_or, set, Ok, Result, sym, refl, ap, ◌∙◌, subst, inl, inr, arith}
 use native.Mathlib.Nat.{mod-le}
-use Rattle.std.proofs.lemmas.List.{get_or-set_same, get_or-set_other, get_or-take, length-take-le, set-get_or}
+use Rattle.std.proofs.lemmas.List.{get_or-set_same, get_or-set_other, set-get_or}
 use Rattle.std.proofs.lemmas.Bool.{cases_eq, cases_lt, cond-true, cond-false, le-leb, lt-leb}
-use Rattle.rounds.specs.Laws.{Distinct}
 use Rattle.store.specs.Meaning.{Meaning, Laws, Live, Within, Added, Spread, Spreads}
 use Rattle.store.specs.Totals.{total, more, spread}
 use Rattle.store.specs.Sums.{slot_sums}
 use Rattle.store.proofs.Lists.{total_more, length_more}
 use Rattle.store.proofs.Rows.{row_distinct}
 use Rattle.store.proofs.Sums.{sums_more, length_sums, total_spread}
-use Rattle.wiring.specs.Rising.{is_row}
 use Rattle.braid.specs.declared.braid.Braid.{Braid}
 use Rattle.braid.specs.declared.layer.Layer.{Layer}
-use Rattle.braid.specs.BraidMeaning.{rows, row, part, raised, modulus, carried, BraidAdmits, BraidSound, braid_meaning}
+use Rattle.braid.specs.BraidMeaning.{count, rows, row, part, raised, modulus, carried, BraidAdmits, BraidSound, braid_meaning}
 use Rattle.braid.specs.Layers.{Room, carry, added}
 use Rattle.braid.proofs.Depths.{modulus_least, quotient_more, remainder_more, raised_by_carry, raised_as_before}
 use Rattle.braid.proofs.Rows.{sums_light}
@@ -31,16 +29,10 @@ spread_none T [] = refl
 spread_none T (slot ∷ row) =
     ap (λ U. spread U row 0) (ap (λ v. set T slot v) (omega arith) ∙ set-get_or T slot 0) ∙ spread_none T row
 
-module _ {S : Type 0} (m : Meaning S) (laws : Laws m) (s : Braid S) (i n : ℕ) (sound : BraidSound m s) (within : i < s.layer.count)
+module _ {S : Type 0} (m : Meaning S) (laws : Laws m) (s : Braid S) (i n : ℕ) (sound : BraidSound m s) (within : i < count s.layer)
     (fits : s.layer.weight + n ≤ 2 ^ 40) where
   some : 0 < modulus s.layer
   some = omega (arith, modulus_least s.layer.depth sound.shallow)
-
-  many : length (rows s.layer) ≡ s.layer.count
-  many = length-take-le s.layer.count s.layer.rows (omega (arith, sound.few, sound.room))
-
-  row_at : (k : ℕ) → k < s.layer.count → get_or (rows s.layer) k [] ≡ row s.layer k
-  row_at k h = get_or-take s.layer.count s.layer.rows k [] h
 
   row_fits : Within (m.slots s.below) (row s.layer i)
   row_fits = (sound.wired i within).1
@@ -60,12 +52,11 @@ module _ {S : Type 0} (m : Meaning S) (laws : Laws m) (s : Braid S) (i n : ℕ) 
         ≡ spread (slot_sums (m.slots s.below) (rows s.layer) (carried m s.layer T)) (row s.layer i) (carry s.layer i n)
     sums_after =
         sums_more (m.slots s.below) (rows s.layer) (carried m s.layer T) (carried m s.layer (more T i n)) i (carry s.layer i n)
-        (omega (arith, many))
-        (subst Distinct (sym (row_at i within)) (row_distinct (row s.layer i) (sound.wired i within).0))
-        (subst (Within (m.slots s.below)) (sym (row_at i within)) row_fits)
+        within
+        (row_distinct (row s.layer i) (sound.wired i within).0)
+        row_fits
         grows
         (λ k d. ap (λ x. x / modulus s.layer) (more_there T i n k d))
-        ∙ ap (λ r. spread (slot_sums (m.slots s.below) (rows s.layer) (carried m s.layer T)) r (carry s.layer i n)) (row_at i within)
 
     -- the store below has room for it: what it holds is at most three quarters of what the braid holds
     room_below : m.weight s.below + length (row s.layer i) * carry s.layer i n ≤ 2 ^ 40
@@ -73,9 +64,9 @@ module _ {S : Type 0} (m : Meaning S) (laws : Laws m) (s : Braid S) (i n : ℕ) 
         let N = m.slots s.below in
         let U = slot_sums N (rows s.layer) (carried m s.layer T) in
         let light = sums_light N (rows s.layer) (more T i n) (modulus s.layer) (modulus_least s.layer.depth sound.shallow)
-        (length_more T i n ∙ admits.long ∙ sym many)
-        (λ k h. subst (λ x. is_row x ≡ true) (sym (row_at k (omega (arith, many)))) (sound.wired k (omega (arith, many))).0)
-        (λ k h. subst (Within N) (sym (row_at k (omega (arith, many)))) (sound.wired k (omega (arith, many))).1) in
+        (length_more T i n ∙ admits.long)
+        (λ k h. (sound.wired k h).0)
+        (λ k h. (sound.wired k h).1) in
         let sum = total_spread U (row s.layer i) (carry s.layer i n)
         (subst (λ k. Within k (row s.layer i)) (sym (length_sums N (rows s.layer) (carried m s.layer T))) row_fits) in
         omega (arith, light, sum, ap total sums_after, total_more T i n long, admits.adds, laws.adds s.below sound.below U admits.below)
@@ -153,7 +144,6 @@ module _ {S : Type 0} (m : Meaning S) (laws : Laws m) (s : Braid S) (i n : ℕ) 
     after_sound : BraidSound m after
     after_sound = record {
       below = below.keeps;
-      room = sound.room;
       few = sound.few;
       shallow = sound.shallow;
       deep = sound.deep;

@@ -4,11 +4,11 @@ use Rattle.std.proofs.lemmas.Bool.{cases_Bool, cond-true, cond-false, ne_eqb}
 use Rattle.rounds.specs.Rounds.{Claimant, Low, High}
 use Rattle.store.specs.Meaning.{Meaning, Live}
 use Rattle.braid.specs.declared.braid.Braid.{Braid}
-use Rattle.braid.specs.BraidMeaning.{raised, claimants, raised_span, braid_spans, braid_meaning}
+use Rattle.braid.specs.BraidMeaning.{count, raised, claimants, raised_span, braid_spans, braid_meaning}
 use Rattle.braid.specs.BraidLaws.{claimant_raised}
 use Rattle.braid.specs.Layers.{known_span}
 
-module _ {S : Type 0} (m : Meaning S) (s : Braid S) (live : Live (braid_meaning m) s) (i : ℕ) (within : i < s.layer.count) where
+module _ {S : Type 0} (m : Meaning S) (s : Braid S) (live : Live (braid_meaning m) s) (i : ℕ) (within : i < count s.layer) where
   at_rounds : (R : ℕ) → R ≡ s.layer.rounds → raised s.layer i ≡ true
       → raised_span s.layer i R (cond (eqb R 0) 1 (get_or s.layer.lows i 0)) (get_or s.layer.highs i 0)
       ≡ raised_span s.layer i R (Low (claimants s.layer) (m.spans s.below R) R i) (High (claimants s.layer) (m.spans s.below R) R i)

@@ -1,4 +1,5 @@
 -- What the rows of a braid carry into the store below weighs less than what the braid holds.
+use Rattle.braid.specs.BraidMeaning.{rows}
 use Rattle.std.proofs.Common.{◌≡◌, ℕ, zero, suc, ◌*◌, ◌/◌, ◌<◌, ◌≤◌, true, List, [], length, get_or, ap, ◌∙◌, mul-le-mul_right, arith}
 use native.Mathlib.Nat.{mul-div-le}
 use Rattle.rounds.specs.Rounds.{sum}

@@ -12,7 +12,7 @@ use Rattle.store.proofs.Spreading.{within_at, within_all, no_refusal}
 use Rattle.store.proofs.Sums.{get_or_listed}
 use Rattle.braid.specs.declared.braid.Braid.{Braid}
 use Rattle.braid.specs.declared.layer.Layer.{Layer}
-use Rattle.braid.specs.BraidMeaning.{rows, row, raised, carried, claimants, slot_span, BraidSound, braid_meaning}
+use Rattle.braid.specs.BraidMeaning.{count, rows, row, raised, carried, claimants, slot_span, BraidSound, braid_meaning}
 use Rattle.braid.specs.BraidLaws.{raised_takes, uses_within}
 use Rattle.braid.specs.Layers.{Claimable}
 
@@ -28,11 +28,8 @@ module _ {S : Type 0} (m : Meaning S) (laws : Laws m) (s : Braid S) (live : Live
   live_below = record { sound = live.sound.below; totals = _; admitted = live.admitted.below }
 
   pub claimable : Claimable s.layer
-  claimable = (
-    live.sound.few,
-    λ i h.
-        within_all 1024 (row s.layer i) (λ k l. omega (arith, within_at _ (row s.layer i) (live.sound.wired i h).1 k l, laws.few s.below live.sound.below)),
-  )
+  claimable i h = within_all 1024 (row s.layer i)
+      (λ k l. omega (arith, within_at _ (row s.layer i) (live.sound.wired i h).1 k l, laws.few s.below live.sound.below))
 
   module _ (b : S) (R : ℕ) (work left : List ℕ) (said : Result ℕ ℕ) (done : Settled m s.below b R work left said) where
     pub live_after : Live m b
@@ -48,7 +45,6 @@ module _ {S : Type 0} (m : Meaning S) (laws : Laws m) (s : Braid S) (live : Live
         lows = lows;
         highs = highs;
         rows = s.layer.rows;
-        count = s.layer.count;
         weight = s.layer.weight;
         rounds = R;
         depth = s.layer.depth;
@@ -64,13 +60,12 @@ module _ {S : Type 0} (m : Meaning S) (laws : Laws m) (s : Braid S) (live : Live
           ap (λ l. get_or l k (record { low = 0; high = 0 })) spans ∙ get_or_listed (m.slots b) (m.spans b (m.rounds b)) k _ inside
           ∙ ap (λ Q. m.spans b Q k) done.rounds
 
-      took : (i : ℕ) → i < s.layer.count → raised s.layer i ≡ true → TakesPart given i
+      took : (i : ℕ) → i < count s.layer → raised s.layer i ≡ true → TakesPart given i
       took i h up = subst (λ cs. TakesPart cs i) (sym claims) (raised_takes s.layer (m.slots s.below) live.sound.wired i h up)
 
       after_sound : BraidSound m after
       after_sound = record {
         below = done.sound;
-        room = live.sound.room;
         few = live.sound.few;
         shallow = live.sound.shallow;
         deep = live.sound.deep;

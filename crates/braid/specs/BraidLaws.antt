@@ -1,10 +1,10 @@
 -- A braid over any store that shows the laws shows them too: what it admits lies in its spans, and they tighten with the rounds.
 -- What each raised slot has carried down are amounts that fit the spans below, so the decoding rounds bound them.
-use Rattle.std.specs.Prelude.{◌≡◌, ℕ, zero, suc, ◌+◌, ◌*◌, ◌<◌, ◌≤◌, Bool, true, false, cond, List, [], length, get_or, slice_index, slice_index_or, refl}
-use Rattle.std.proofs.Common.{sym, ap, subst, ◌∙◌, inl, inr, mul-le-mul_left, arith, length-take, pow_pos}
+use Rattle.std.specs.Prelude.{◌≡◌, ℕ, zero, suc, ◌+◌, ◌*◌, ◌<◌, ◌≤◌, Bool, true, false, cond, List, [], get_or, slice_index, slice_index_or, refl}
+use Rattle.std.proofs.Common.{sym, ap, subst, ◌∙◌, inl, inr, mul-le-mul_left, arith, pow_pos}
 use Rattle.std.proofs.Math.Nat.{div-add-mod, div-eq_of_lt}
 use Rattle.std.proofs.lemmas.Nat.{le-div}
-use Rattle.std.proofs.lemmas.List.{get_or_past, get_or-take}
+use Rattle.std.proofs.lemmas.List.{get_or_past}
 use Rattle.std.proofs.lemmas.Bool.{both_ways, cases_Bool, cases_lt, cond_both, cond-true, cond-false, leb-true, leb-false}
 use Rattle.rounds.specs.declared.span.Span.{Span}
 use Rattle.rounds.specs.Rounds.{Claimant, nobody, row_of, has, Uses, filled, TakesPart, sum, load, Low, High}
@@ -20,29 +20,29 @@ use Rattle.store.proofs.Sums.{length_listed, get_or_listed, sum_ext, get_or_sums
 use Rattle.wiring.specs.Rising.{is_row}
 use Rattle.braid.specs.declared.layer.Layer.{Layer}
 use Rattle.braid.specs.declared.braid.Braid.{Braid}
-use Rattle.braid.specs.BraidMeaning.{modulus, rows, row, part, raised, claimant, claimants, top, closed_at}
+use Rattle.braid.specs.BraidMeaning.{count, modulus, rows, row, part, raised, claimant, claimants, top, closed_at}
 use Rattle.braid.specs.BraidMeaning.{carried, BraidAdmits, BraidSound, braid_spans, braid_meaning}
 
 -- who the claimants of a layer are
 module _ (l : Layer) where
-  claimant_at : (i : ℕ) → i < l.count → slice_index_or (claimants l) i nobody ≡ claimant l i
-  claimant_at i h = get_or_listed l.count (claimant l) i nobody h
+  claimant_at : (i : ℕ) → i < count l → slice_index_or (claimants l) i nobody ≡ claimant l i
+  claimant_at i h = get_or_listed (count l) (claimant l) i nobody h
 
-  pub claimant_raised : (i : ℕ) → i < l.count → raised l i ≡ true
+  pub claimant_raised : (i : ℕ) → i < count l → raised l i ≡ true
       → slice_index_or (claimants l) i nobody ≡ record { row = row l i; floor = 1 }
   claimant_raised i h up = claimant_at i h ∙ cond-true (raised l i) _ nobody up
 
-  pub claimant_closed : (i : ℕ) → i < l.count → raised l i ≡ false → slice_index_or (claimants l) i nobody ≡ nobody
+  pub claimant_closed : (i : ℕ) → i < count l → raised l i ≡ false → slice_index_or (claimants l) i nobody ≡ nobody
   claimant_closed i h down = claimant_at i h ∙ cond-false (raised l i) _ nobody down
 
-  pub claimant_past : (i : ℕ) → l.count ≤ i → slice_index_or (claimants l) i nobody ≡ nobody
-  claimant_past i h = get_or_past (claimants l) i nobody (omega (arith, length_listed l.count (claimant l)))
+  pub claimant_past : (i : ℕ) → count l ≤ i → slice_index_or (claimants l) i nobody ≡ nobody
+  claimant_past i h = get_or_past (claimants l) i nobody (omega (arith, length_listed (count l) (claimant l)))
 
-  pub row_raised : (i : ℕ) → i < l.count → raised l i ≡ true → row_of (claimants l) i ≡ row l i
+  pub row_raised : (i : ℕ) → i < count l → raised l i ≡ true → row_of (claimants l) i ≡ row l i
   row_raised i h up = ap (λ (c : Claimant). c.row) (claimant_raised i h up)
 
-  pub takes_raised : (i : ℕ) → TakesPart (claimants l) i → (i < l.count) × (raised l i ≡ true)
-  takes_raised i t = elim (cases_lt i l.count) [
+  pub takes_raised : (i : ℕ) → TakesPart (claimants l) i → (i < count l) × (raised l i ≡ true)
+  takes_raised i t = elim (cases_lt i (count l)) [
     | inl h ↦ elim (cases_Bool (raised l i)) [
       | inl up ↦ (h, up)
       | inr down ↦ absurd (absent (claimant_closed i h down))
@@ -53,20 +53,19 @@ module _ (l : Layer) where
       absent : get_or (claimants l) i nobody ≡ nobody → ⊥
       absent e = both_ways false refl (subst (λ (c : Claimant). filled c.row ≡ true) e t)
 
-  pub uses_raised : (i slot : ℕ) → Uses (claimants l) i slot → (i < l.count) × (raised l i ≡ true) × (has slot (row l i) ≡ true)
+  pub uses_raised : (i slot : ℕ) → Uses (claimants l) i slot → (i < count l) × (raised l i ≡ true) × (has slot (row l i) ≡ true)
   uses_raised i slot u =
       let r = takes_raised i (uses_part (claimants l) i slot u) in
       (r.0, r.1, subst (λ (slots : List ℕ). has slot slots ≡ true) (row_raised i r.0 r.1) u)
 
   -- the claimants bring a slot all that reaches it, as slots that are not raised have carried nothing
-  module _ (long : l.count ≤ length l.rows) (amount : ℕ → ℕ)
-      (none : (i : ℕ) → i < l.count → raised l i ≡ false → amount i ≡ 0) where
-    brings : (slot i : ℕ) → i < l.count
+  module _ (amount : ℕ → ℕ)
+      (none : (i : ℕ) → i < count l → raised l i ≡ false → amount i ≡ 0) where
+    brings : (slot i : ℕ) → i < count l
         → cond (has slot (row_of (claimants l) i)) (amount i) 0 ≡ cond (has slot (slice_index_or (rows l) i [])) (amount i) 0
     brings slot i h =
-        let here : get_or (rows l) i [] ≡ row l i = get_or-take l.count l.rows i [] h in
         elim (cases_Bool (raised l i)) [
-          | inl up ↦ ap (λ (slots : List ℕ). cond (has slot slots) (amount i) 0) (row_raised i h up ∙ sym here)
+          | inl up ↦ ap (λ (slots : List ℕ). cond (has slot slots) (amount i) 0) (row_raised i h up)
           | inr down ↦
               ap (λ (c : Claimant). cond (has slot c.row) (amount i) 0) (claimant_closed i h down)
               ∙ cond_both (has slot (slice_index_or (rows l) i [])) (amount i) 0 (λ n. 0 ≡ n) (λ _. sym (none i h down)) (λ _. refl)
@@ -76,14 +75,12 @@ module _ (l : Layer) where
     load_reaching slot =
         let share : ℕ → ℕ = λ i. cond (has slot (row_of (claimants l) i)) (amount i) 0 in
         let here : ℕ → ℕ = λ i. cond (has slot (slice_index_or (rows l) i [])) (amount i) 0 in
-        let most : length (rows l) ≡ l.count = omega (arith, length-take l.count l.rows) in
-        ap (λ n. sum n share) (length_listed l.count (claimant l)) ∙ sum_ext l.count share here (brings slot)
-        ∙ ap (λ n. sum n here) (sym most)
+        ap (λ n. sum n share) (length_listed (count l) (claimant l)) ∙ sum_ext (count l) share here (brings slot)
 
   -- rows that are made and lie in the store below make claimants that the rounds take
-  module _ (N : ℕ) (wired : (i : ℕ) → i < l.count → (is_row (row l i) ≡ true) × Within N (row l i)) where
+  module _ (N : ℕ) (wired : (i : ℕ) → i < count l → (is_row (row l i) ≡ true) × Within N (row l i)) where
     pub proper : ProperRows (claimants l)
-    proper i = elim (cases_lt i l.count) [
+    proper i = elim (cases_lt i (count l)) [
       | inl h ↦ elim (cases_Bool (raised l i)) [
         | inl up ↦ subst (λ (slots : List ℕ). Proper slots) (sym (row_raised i h up)) (row_proper (row l i) (wired i h).0)
         | inr down ↦ subst (λ (c : Claimant). Proper c.row) (sym (claimant_closed i h down)) tt
@@ -91,7 +88,7 @@ module _ (l : Layer) where
       | inr past ↦ subst (λ (c : Claimant). Proper c.row) (sym (claimant_past i past)) tt
     ]
 
-    pub raised_takes : (i : ℕ) → i < l.count → raised l i ≡ true → TakesPart (claimants l) i
+    pub raised_takes : (i : ℕ) → i < count l → raised l i ≡ true → TakesPart (claimants l) i
     raised_takes i h up = ap filled (row_raised i h up) ∙ row_filled (row l i) (wired i h).0
 
     pub uses_within : (i slot : ℕ) → Uses (claimants l) i slot → slot < N
@@ -140,26 +137,26 @@ module _ {S : Type 0} (m : Meaning S) (laws : Laws m) (s : Braid S) (sound : Bra
     highs = λ i slot u. laws.falls s.below sound.below R Q slot le (uses_within s.layer N sound.wired i slot u);
   }
 
-  tightens : (R Q i : ℕ) → R ≤ Q → i < s.layer.count → raised s.layer i ≡ true
+  tightens : (R Q i : ℕ) → R ≤ Q → i < count s.layer → raised s.layer i ≡ true
       → (Low cs (under R) R i ≤ Low cs (under Q) Q i) × (1 ≤ R → High cs (under Q) Q i ≤ High cs (under R) R i)
   tightens R Q i le h up =
       more_rounds_tighten_lem cs (under R) (under Q) (proper s.layer N sound.wired) (narrower R Q le) R Q i le
       (raised_takes s.layer N sound.wired i h up)
 
-  rises : (R Q i : ℕ) → R ≤ Q → i < s.layer.count → (braid_spans m s R i).low ≤ (braid_spans m s Q i).low
+  rises : (R Q i : ℕ) → R ≤ Q → i < count s.layer → (braid_spans m s R i).low ≤ (braid_spans m s Q i).low
   rises R Q i le h = low_either (raised s.layer i) _ _ (closed_at (part s.layer i)) (λ up.
       let more = (tightens R Q i le h up).0 in
       omega (arith, mul-le-mul_left {m = Low cs (under R) R i} {n = Low cs (under Q) Q i} (modulus s.layer) more))
 
-  falls : (R Q i : ℕ) → R ≤ Q → i < s.layer.count → (braid_spans m s Q i).high ≤ (braid_spans m s R i).high
+  falls : (R Q i : ℕ) → R ≤ Q → i < count s.layer → (braid_spans m s Q i).high ≤ (braid_spans m s R i).high
   falls R Q i le h = high_either (raised s.layer i) _ _ (closed_at (part s.layer i)) (λ up.
       top_falls s.layer i R Q (High cs (under R) R i) (High cs (under Q) Q i) le (tightens R Q i le h up).1)
 
-  low_light : (R i : ℕ) → i < s.layer.count → (braid_spans m s R i).low ≤ s.layer.weight
+  low_light : (R i : ℕ) → i < count s.layer → (braid_spans m s R i).low ≤ s.layer.weight
   low_light R i h = cond_both (raised s.layer i) _ _ (λ (span : Span). span.low ≤ s.layer.weight)
       (λ up. omega arith) (λ down. sound.parts i h)
 
-  high_light : (R i : ℕ) → i < s.layer.count → (braid_spans m s R i).high ≤ s.layer.weight
+  high_light : (R i : ℕ) → i < count s.layer → (braid_spans m s R i).high ≤ s.layer.weight
   high_light R i h = cond_both (raised s.layer i) _ _ (λ (span : Span). span.high ≤ s.layer.weight)
       (λ up. top_light s.layer i R (High cs (under R) R i)) (λ down. sound.parts i h)
 
@@ -168,16 +165,16 @@ module _ {S : Type 0} (m : Meaning S) (laws : Laws m) (s : Braid S) (sound : Bra
     abbrev carry : ℕ → ℕ
     carry = carried m s.layer T
 
-    split : (i : ℕ) → i < s.layer.count → slice_index T i ≡ part s.layer i + modulus s.layer * carry i
+    split : (i : ℕ) → i < count s.layer → slice_index T i ≡ part s.layer i + modulus s.layer * carry i
     split i h = omega (arith, div-add-mod (slice_index T i) (modulus s.layer), admits.parts i h)
 
     -- a slot is raised just where it has carried
-    pub raised_carries : (i : ℕ) → i < s.layer.count → raised s.layer i ≡ true → 1 ≤ carry i
+    pub raised_carries : (i : ℕ) → i < count s.layer → raised s.layer i ≡ true → 1 ≤ carry i
     raised_carries i h up =
         let reached = leb-true (modulus s.layer) (slice_index T i) (sym (admits.bits i h) ∙ up) in
         le-div 1 (slice_index T i) (modulus s.layer) (pow_pos s.layer.depth) (omega arith)
 
-    pub closed_carries : (i : ℕ) → i < s.layer.count → raised s.layer i ≡ false → carry i ≡ 0
+    pub closed_carries : (i : ℕ) → i < count s.layer → raised s.layer i ≡ false → carry i ≡ 0
     closed_carries i h down = div-eq_of_lt (leb-false (modulus s.layer) (slice_index T i) (sym (admits.bits i h) ∙ down))
 
     entry_most : (i : ℕ) → slice_index T i ≤ s.layer.weight
@@ -186,7 +183,7 @@ module _ {S : Type 0} (m : Meaning S) (laws : Laws m) (s : Braid S) (sound : Bra
     sum_below : (slot : ℕ) → slot < N → slice_index (slot_sums N (rows s.layer) carry) slot ≡ load cs carry slot
     sum_below slot h =
         get_or_sums N (rows s.layer) carry slot h
-        ∙ sym (load_reaching s.layer (omega (arith, sound.room, sound.few)) carry closed_carries slot)
+        ∙ sym (load_reaching s.layer carry closed_carries slot)
 
     pub fitting : (R : ℕ) → Fitting cs (under R) carry
     fitting R = record {
@@ -202,20 +199,20 @@ module _ {S : Type 0} (m : Meaning S) (laws : Laws m) (s : Braid S) (sound : Bra
           omega (arith, laws.below s.below sound.below _ admits.below R slot h, sum_below slot h);
     }
 
-    pub holds : (R i : ℕ) → i < s.layer.count → raised s.layer i ≡ true
+    pub holds : (R i : ℕ) → i < count s.layer → raised s.layer i ≡ true
         → (Low cs (under R) R i ≤ carry i) × (1 ≤ R → carry i ≤ High cs (under R) R i)
     holds R i h up =
         bounds_hold_lem cs (under R) carry (proper s.layer N sound.wired) (fitting R) R i
         (raised_takes s.layer N sound.wired i h up)
 
-    above : (R i : ℕ) → i < s.layer.count → (braid_spans m s R i).low ≤ slice_index T i
+    above : (R i : ℕ) → i < count s.layer → (braid_spans m s R i).low ≤ slice_index T i
     above R i h = cond_both (raised s.layer i) _ _ (λ (span : Span). span.low ≤ slice_index T i)
         (λ up.
         let most = mul-le-mul_left {m = Low cs (under R) R i} {n = carry i} (modulus s.layer) (holds R i h up).0 in
         omega (arith, split i h, most))
         (λ down. omega (arith, split i h))
 
-    below : (R i : ℕ) → i < s.layer.count → slice_index T i ≤ (braid_spans m s R i).high
+    below : (R i : ℕ) → i < count s.layer → slice_index T i ≤ (braid_spans m s R i).high
     below R i h = cond_both (raised s.layer i) _ _ (λ (span : Span). slice_index T i ≤ span.high)
         (λ up.
         let high = High cs (under R) R i in

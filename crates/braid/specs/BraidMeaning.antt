@@ -1,5 +1,5 @@
 -- What a braid means: which totals it admits, and what it knows of each slot.
-use Rattle.std.specs.Prelude.{◌≡◌, ℕ, zero, suc, ◌+◌, ◌*◌, ◌/◌, ◌%◌, ◌^◌, ◌<◌, ◌≤◌, min, Bool, true, cond, List, [], length, take, ◌==◌, nat_le, slice_index, slice_index_or}
+use Rattle.std.specs.Prelude.{◌≡◌, ℕ, zero, suc, ◌+◌, ◌*◌, ◌/◌, ◌%◌, ◌^◌, ◌<◌, ◌≤◌, min, Bool, true, cond, List, [], length, ◌==◌, nat_le, slice_index, slice_index_or}
 use Rattle.rounds.specs.declared.span.Span.{Span}
 use Rattle.rounds.specs.Rounds.{Claimant, nobody, Low, High}
 use Rattle.store.specs.Meaning.{Meaning, Within}
@@ -13,12 +13,16 @@ use Rattle.braid.specs.declared.braid.Braid.{Braid}
 abbrev pub modulus : Layer → ℕ
 modulus l = 2 ^ l.depth
 
--- the rows in the order of the slots
+-- the rows in the order of the slots, of which there is one each
 abbrev pub rows : Layer → List (List ℕ)
-rows l = take l.count l.rows
+rows l = l.rows.items
 
 abbrev pub row : Layer → ℕ → List ℕ
-row l i = slice_index_or l.rows i []
+row l i = slice_index_or (rows l) i []
+
+-- how many slots there are
+abbrev pub count : Layer → ℕ
+count l = length (rows l)
 
 -- the low part of a slot, and whether its status bit is set
 abbrev pub part : Layer → ℕ → ℕ
@@ -35,7 +39,7 @@ abbrev pub claimant : Layer → ℕ → Claimant
 claimant l i = claimant_of (slice_index l.bits i) (row l i)
 
 abbrev pub claimants : Layer → List Claimant
-claimants l = listed l.count (claimant l)
+claimants l = listed (count l) (claimant l)
 
 -- what a slot that has run over at least `low` times and at most `high` times holds, no more than the weight
 abbrev pub top : Layer → ℕ → ℕ → ℕ → ℕ
@@ -59,10 +63,10 @@ module _ {S : Type 0} (m : Meaning S) where
   carried l T i = slice_index T i / modulus l
 
   pub record BraidAdmits (s : Braid S) (T : List ℕ) : Type 0 where
-    pub long : length T ≡ s.layer.count
+    pub long : length T ≡ count s.layer
     pub adds : total T ≡ s.layer.weight
-    pub parts : (i : ℕ) → i < s.layer.count → part s.layer i ≡ slice_index T i % modulus s.layer
-    pub bits : (i : ℕ) → i < s.layer.count → raised s.layer i ≡ nat_le (modulus s.layer) (slice_index T i)
+    pub parts : (i : ℕ) → i < count s.layer → part s.layer i ≡ slice_index T i % modulus s.layer
+    pub bits : (i : ℕ) → i < count s.layer → raised s.layer i ≡ nat_le (modulus s.layer) (slice_index T i)
     pub below : m.admits s.below (slot_sums (m.slots s.below) (rows s.layer) (carried s.layer T))
 
   abbrev pub braid_spans : Braid S → ℕ → ℕ → Span
@@ -71,22 +75,21 @@ module _ {S : Type 0} (m : Meaning S) where
   -- what the making and the calls of a braid keep
   pub record BraidSound (s : Braid S) : Type 0 where
     pub below : m.sound s.below
-    pub room : length s.layer.rows ≡ 1024
-    pub few : s.layer.count ≤ 1024
+    pub few : count s.layer ≤ 1024
     pub shallow : 2 ≤ s.layer.depth
     pub deep : s.layer.depth ≤ 16
     pub light : s.layer.weight ≤ 2 ^ 40
-    pub parts : (i : ℕ) → i < s.layer.count → part s.layer i ≤ s.layer.weight
-    pub wired : (i : ℕ) → i < s.layer.count → (is_row (row s.layer i) ≡ true) × Within (m.slots s.below) (row s.layer i)
+    pub parts : (i : ℕ) → i < count s.layer → part s.layer i ≤ s.layer.weight
+    pub wired : (i : ℕ) → i < count s.layer → (is_row (row s.layer i) ≡ true) × Within (m.slots s.below) (row s.layer i)
     -- what was worked out for the raised slots, where the braid is settled at some rounds and admits a list
-    pub lows : (T : List ℕ) → BraidAdmits s T → 0 < s.layer.rounds → (i : ℕ) → i < s.layer.count → raised s.layer i ≡ true
+    pub lows : (T : List ℕ) → BraidAdmits s T → 0 < s.layer.rounds → (i : ℕ) → i < count s.layer → raised s.layer i ≡ true
         → slice_index s.layer.lows i ≡ Low (claimants s.layer) (m.spans s.below s.layer.rounds) s.layer.rounds i
-    pub highs : (T : List ℕ) → BraidAdmits s T → 0 < s.layer.rounds → (i : ℕ) → i < s.layer.count → raised s.layer i ≡ true
+    pub highs : (T : List ℕ) → BraidAdmits s T → 0 < s.layer.rounds → (i : ℕ) → i < count s.layer → raised s.layer i ≡ true
         → slice_index s.layer.highs i ≡ High (claimants s.layer) (m.spans s.below s.layer.rounds) s.layer.rounds i
 
   abbrev pub braid_meaning : Meaning (Braid S)
   braid_meaning = record {
-    slots = λ s. s.layer.count;
+    slots = λ s. count s.layer;
     weight = λ s. s.layer.weight;
     rounds = λ s. s.layer.rounds;
     admits = BraidAdmits;

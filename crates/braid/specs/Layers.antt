@@ -1,26 +1,22 @@
 -- What becomes of a layer: as it is made, with one row more, and with units added to a slot.
-use Rattle.std.specs.Prelude.{◌≡◌, ℕ, ◌+◌, ◌/◌, ◌%◌, ◌^◌, ◌<◌, ◌≤◌, cond, List, [], ◌∷◌, length, replicate, ◌==◌, nat_le, slice_index, slice_set}
+use Rattle.std.specs.Prelude.{◌≡◌, ℕ, ◌+◌, ◌/◌, ◌%◌, ◌^◌, ◌<◌, cond, List, [], ◌∷◌, ◌++◌, length, replicate, ◌==◌, nat_le, slice_index, slice_set}
 use Rattle.rounds.specs.declared.span.Span.{Span}
 use Rattle.braid.specs.declared.layer.Layer.{Layer}
 use Rattle.store.specs.Meaning.{Within}
-use Rattle.braid.specs.BraidMeaning.{row, part, raised, raised_span, closed_at}
+use Rattle.braid.specs.BraidMeaning.{row, rows, count, part, raised, raised_span, closed_at}
 
 -- the tables that are written one entry at a time have 1,024 entries
 pub record Room (l : Layer) : Type 0 where
   pub parts : length l.parts ≡ 1024
   pub bits : length l.bits ≡ 1024
-  pub rows : length l.rows ≡ 1024
 
 -- the same slots on the same rows
 abbrev pub SameWiring : Layer → Layer → Type 0
-SameWiring before after = (after.rows ≡ before.rows) × (after.count ≡ before.count) × (after.depth ≡ before.depth)
+SameWiring before after = (rows after ≡ rows before) × (after.depth ≡ before.depth)
 
 -- a layer without slots
 unfoldable pub zeros : List ℕ
 zeros = replicate 1024 0
-
-unfoldable pub no_rows : List (List ℕ)
-no_rows = replicate 1024 (0 ∷ (1 ∷ (2 ∷ [])))
 
 abbrev pub blank : ℕ → Layer
 blank depth = record {
@@ -28,8 +24,7 @@ blank depth = record {
   bits = zeros;
   lows = zeros;
   highs = zeros;
-  rows = no_rows;
-  count = 0;
+  rows = record { items = [] };
   weight = 0;
   rounds = 0;
   depth = depth;
@@ -38,12 +33,11 @@ blank depth = record {
 -- one slot more, empty and not raised
 abbrev pub wired : Layer → List ℕ → Layer
 wired l row = record {
-  parts = slice_set l.parts l.count 0;
-  bits = slice_set l.bits l.count 0;
+  parts = slice_set l.parts (count l) 0;
+  bits = slice_set l.bits (count l) 0;
   lows = l.lows;
   highs = l.highs;
-  rows = slice_set l.rows l.count row;
-  count = l.count + 1;
+  rows = record { items = rows l ++ row ∷ [] };
   weight = l.weight;
   rounds = l.rounds;
   depth = l.depth;
@@ -61,7 +55,6 @@ added l i n = record {
   lows = l.lows;
   highs = l.highs;
   rows = l.rows;
-  count = l.count;
   weight = l.weight + n;
   rounds = 0;
   depth = l.depth;
@@ -76,4 +69,4 @@ known_span l i = cond (raised l i) (raised_span l i l.rounds (known_low l i) (sl
 
 -- the slots can be claimants: their rows are of slots that a store can have
 abbrev pub Claimable : Layer → Type 0
-Claimable l = (l.count ≤ 1024) × ((i : ℕ) → i < l.count → Within 1024 (row l i))
+Claimable l = (i : ℕ) → i < count l → Within 1024 (row l i)

@@ -5,7 +5,7 @@ use Rattle.store.specs.Refusals as store
 use Rattle.braid.specs.declared.braid.Braid.{Braid}
 use Rattle.braid.specs.declared.refusal.Refusal.{Refusal}
 use Rattle.braid.specs.declared.refusal.Refusal.TheVariants.{Weighted, Full, Store}
-use Rattle.braid.specs.BraidMeaning.{rows, BraidAdmits, BraidSound}
+use Rattle.braid.specs.BraidMeaning.{count, rows, BraidAdmits, BraidSound}
 
 -- the number under which each refusal is known; that of the store below is the store's
 abbrev pub number : Refusal → ℕ
@@ -20,9 +20,9 @@ told_wire (Err why) = Err (number why)
 module _ {S : Type 0} (m : Meaning S) where
   -- wire, accepted: the new slot has the row, and holds nothing in every list that was admitted
   pub record Wired (before after : Braid S) (row : List ℕ) (answer : Result ℕ ℕ) : Type 0 where
-    pub answers : answer ≡ Ok before.layer.count
+    pub answers : answer ≡ Ok (count before.layer)
     pub below : after.below ≡ before.below
-    pub slots : after.layer.count ≡ before.layer.count + 1
+    pub slots : count after.layer ≡ count before.layer + 1
     pub wiring : rows after.layer ≡ rows before.layer ++ row ∷ []
     pub depth : after.layer.depth ≡ before.layer.depth
     pub weight : after.layer.weight ≡ before.layer.weight
@@ -34,8 +34,8 @@ module _ {S : Type 0} (m : Meaning S) where
   -- the row is not there; a refusal alters nothing
   pub record Wires (before after : Braid S) (row : List ℕ) (answer : Result ℕ ℕ) : Type 0 where
     pub weighted : (0 < before.layer.weight) ⊎ (0 < m.weight before.below) → (answer ≡ Err 6) × (after ≡ before)
-    pub full : before.layer.weight ≡ 0 → m.weight before.below ≡ 0 → 1024 ≤ before.layer.count → (answer ≡ Err 7) × (after ≡ before)
-    pub no_slot : before.layer.weight ≡ 0 → m.weight before.below ≡ 0 → before.layer.count < 1024
+    pub full : before.layer.weight ≡ 0 → m.weight before.below ≡ 0 → 1024 ≤ count before.layer → (answer ≡ Err 7) × (after ≡ before)
+    pub no_slot : before.layer.weight ≡ 0 → m.weight before.below ≡ 0 → count before.layer < 1024
         → (Within (m.slots before.below) row → ⊥) → (answer ≡ Err 1) × (after ≡ before)
-    pub wired : before.layer.weight ≡ 0 → m.weight before.below ≡ 0 → before.layer.count < 1024
+    pub wired : before.layer.weight ≡ 0 → m.weight before.below ≡ 0 → count before.layer < 1024
         → Within (m.slots before.below) row → Wired before after row answer

@@ -47,7 +47,7 @@ impl<S: Store> Braid<S> {
         if self.layer.weight > 0 || self.below.weight() > 0 {
             return Err(Refusal::Weighted);
         }
-        if usize::from(self.layer.count) >= SLOTS {
+        if usize::from(self.layer.count()) >= SLOTS {
             return Err(Refusal::Full);
         }
         if !within(row.slots(), self.below.slots()) {
@@ -63,7 +63,7 @@ impl<S: Store> Store for Braid<S> {
     ghost laws = { braid_laws S.Store.meaning S.Store.laws };
 
     fn slots(&self) -> u16 {
-        self.layer.count
+        self.layer.count()
     }
 
     fn weight(&self) -> u64 {

@@ -27,7 +27,7 @@ pub(crate) fn claims_of(layer: &Layer) -> Result<Claims, Refusal>
     ensures { Claimable layer.now → MatchResult result (λ claims. given_claimants claims ≡ claimants layer.now) (λ _. ⊥) }
 {
     let mut claims = Claims::new();
-    for (row, bit) in layer.rows().iter().zip(&layer.bits) {
+    for (row, bit) in layer.rows.as_slice().iter().zip(&layer.bits) {
         push_claim(&mut claims, *bit, *row)?;
     }
     Ok(claims)

@@ -1,27 +1,27 @@
 // A layer: the counters of a braid, in tables of its own. Of each slot it keeps the low part, the
 // status bit (1 where the counter has run over) and the row; and of the slots that are raised what
 // the last settling worked out.
-ghost use Rattle.std.specs.Prelude.{◌≡◌, ◌+◌, ◌*◌, ◌^◌, ◌<◌, ◌≤◌, min, length, IfOk, MatchResult};
+ghost use Rattle.std.specs.Prelude.{◌≡◌, ◌+◌, ◌*◌, ◌^◌, ◌<◌, ◌≤◌, min, MatchResult};
 ghost use Rattle.store.specs.declared.refusal.Refusal.TheVariants.{NoSlot};
 ghost use Rattle.braid.specs.Layers.{Room, SameWiring, blank, carry, added, wired, known_span};
-ghost use Rattle.braid.specs.BraidMeaning.{modulus, row, rows};
+ghost use Rattle.braid.specs.BraidMeaning.{modulus, row, count};
 
 use crate::place::{Place, SLOTS};
+use arrayvec::ArrayVec;
 use rounds::span::Span;
 use store::refusal::Refusal;
 use wiring::depth::Depth;
 use wiring::row::Row;
 
-// Tables side by side with one count, and bits as numbers: without a heap they are a braid's own, all zero at first,
-// and the decoder is lent two of them whole. Nobody compares or prints a layer.
-#[derive(Clone, Copy)]
+// Tables of a braid's own, all zero at first (a bit too is 0 or 1), beside its rows: the decoder is lent two of them whole,
+// and a settling must not want memory. Nobody compares or prints a layer.
+#[derive(Drop)]
 pub struct Layer {
-    pub(crate) parts: [u16; 1024],
-    pub(crate) bits: [u8; 1024],
-    pub(crate) lows: [u64; 1024],
-    pub(crate) highs: [u64; 1024],
-    pub(crate) rows: [Row; 1024],
-    pub(crate) count: u16,
+    pub(crate) parts: [u16; SLOTS],
+    pub(crate) bits: [u8; SLOTS],
+    pub(crate) lows: [u64; SLOTS],
+    pub(crate) highs: [u64; SLOTS],
+    pub(crate) rows: ArrayVec<Row, SLOTS>,
     pub(crate) weight: u64,
     pub(crate) rounds: u16,
     pub(crate) depth: Depth,
@@ -34,43 +34,46 @@ impl Layer {
         ensures least { 2 ≤ depth }
         ensures most { depth ≤ 16 }
     {
+        // the two bounds are what asking a depth for its bits tells
         let _ = depth.bits();
         Layer {
             parts: [0; SLOTS],
             bits: [0; SLOTS],
             lows: [0; SLOTS],
             highs: [0; SLOTS],
-            rows: [Row::default(); SLOTS],
-            count: 0,
+            rows: ArrayVec::new(),
             weight: 0,
             rounds: 0,
             depth,
         }
     }
 
-    // Where a slot stands in the tables.
-    pub(crate) fn place(&self, slot: u16) -> Result<Place, Refusal>
-        ensures err { self.now.count ≤ 1024 → MatchResult result (λ _. slot < self.now.count) (λ why. (self.now.count ≤ slot) × (why ≡ NoSlot)) }
-        ensures ok { IfOk result (λ i. (i ≡ slot) × (i < 1024) × (slot < self.now.count)) }
+    // How many slots there are.
+    pub(crate) fn count(&self) -> u16
+        ensures value { result ≡ count self.now }
+        ensures few { result ≤ 1024 }
     {
-        Place::of(slot)
-            .filter(|_| slot < self.count)
-            .ok_or(Refusal::NoSlot)
+        self.rows.len() as u16
     }
 
-    // The rows of all slots, in their order.
-    pub(crate) fn rows(&self) -> &[Row]
-        ensures value { self.now.count ≤ 1024 → result.now ≡ rows self.now }
-        ensures count { self.now.count ≤ 1024 → length result.now ≡ self.now.count }
+    // Where a slot stands in the tables.
+    pub(crate) fn place(&self, slot: u16) -> Result<Place, Refusal>
+        ensures { MatchResult result (λ place. (place ≡ slot) × (place < 1024) × (slot < count self.now)) (λ why. (count self.now ≤ slot) × (why ≡ NoSlot)) }
     {
-        &self.rows[..usize::from(self.count).min(SLOTS)]
+        let count = self.count();
+        Place::of(slot)
+            .filter(|_| slot < count)
+            .ok_or(Refusal::NoSlot)
     }
 
     // The row of a slot.
     pub(crate) fn row(&self, i: Place) -> &[u16]
         ensures { result.now ≡ row self.now i }
     {
-        self.rows[i.index()].slots()
+        self.rows
+            .as_slice()
+            .get(i.index())
+            .map_or(&[], |row| row.slots())
     }
 
     // The number that counters of this layer count modulo.
@@ -110,17 +113,16 @@ impl Layer {
 
     // One slot more, empty, where there is room for it.
     pub(crate) fn wire(&mut self, row: Row) -> u16
-        requires { self.old.count < 1024 }
-        ensures number { result ≡ self.old.count }
+        requires { count self.old < 1024 }
+        ensures number { result ≡ count self.old }
         ensures wired { self.new ≡ wired self.old row }
         ensures room { Room self.old }
     {
-        let slot = self.count;
+        let slot = self.count();
         let i = usize::from(slot);
         self.parts[i] = 0;
         self.bits[i] = 0;
-        self.rows[i] = row;
-        self.count = slot + 1;
+        self.rows.push(row);
         slot
     }
 

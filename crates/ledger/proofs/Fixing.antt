@@ -1,7 +1,7 @@
 -- An admitted list fixes what a braid over a flat table knows: the table can only be the sums of what was
 -- carried, and the rules take nothing else from below.
-use Rattle.std.proofs.Common.{◌≡◌, ℕ, ◌^◌, ◌<◌, List, [], length, get_or, sym, ap, ◌∙◌, subst, inl, inr, arith}
-use Rattle.std.proofs.lemmas.List.{get_or_past, get_or-take}
+use Rattle.std.proofs.Common.{◌≡◌, ℕ, ◌^◌, ◌<◌, List, [], length, get_or, sym, ap, ◌∙◌, inl, inr, arith}
+use Rattle.std.proofs.lemmas.List.{get_or_past}
 use Rattle.std.proofs.lemmas.Bool.{cases_lt, cond-false, false_from_ne_true}
 use Rattle.rounds.specs.Rounds.{has}
 use Rattle.store.specs.declared.flat.Flat.{Flat}
@@ -14,7 +14,7 @@ use Rattle.braid.specs.declared.braid.Braid.{Braid}
 use Rattle.braid.specs.BraidMeaning.{modulus, rows, closed_at}
 use Rattle.ledger.specs.Rules as rules
 use Rattle.ledger.specs.Fixed.{runs_over, known, Holding, Computed, BuiltAlike, KnownAlike, FixedSpans}
-use Rattle.ledger.proofs.Ruling.{many, same_span}
+use Rattle.ledger.proofs.Ruling.{same_span}
 
 -- nothing reaches past the last slot, and the sums of the slots that are there are all sums
 sums_all : (N : ℕ) (wiring : List (List ℕ)) (amount : ℕ → ℕ) → ((i : ℕ) → i < length wiring → Within N (get_or wiring i []))
@@ -36,10 +36,7 @@ module _ (s : Braid Flat) (T : List ℕ) (holding : Holding s T) where
   wiring = rows s.layer
 
   within : (i : ℕ) → i < length wiring → Within (length (cells s.below)) (get_or wiring i [])
-  within i h =
-      let here : i < s.layer.count = omega (arith, many flat_meaning s holding.sound T holding.admits) in
-      subst (λ slots. Within (length (cells s.below)) slots) (sym (get_or-take s.layer.count s.layer.rows i [] here))
-      (holding.sound.wired i here).1
+  within i h = (holding.sound.wired i h).1
 
   known_below : (slot : ℕ) → get_or (cells s.below) slot 0 ≡ reaching wiring (runs_over M T) slot
   known_below slot =

@@ -1,10 +1,9 @@
 -- The spans that a braid keeps in its tables are those of the rules for the totals that it admits: low
 -- parts, status bits and the weight are all that the rules take from the totals. Outside knots, over
 -- closed spans below, the rounds find what each raised slot has carried, and so its total.
-use Rattle.std.proofs.Common.{◌≡◌, ℕ, zero, suc, ◌+◌, ◌*◌, ◌/◌, ◌^◌, ◌<◌, ◌≤◌, min, Bool, true, cond, leb, List, [], length, get_or, sym, ap, ◌∙◌, subst, inl, inr, mod-eq_of_lt, arith}
+use Rattle.std.proofs.Common.{◌≡◌, ℕ, zero, suc, ◌+◌, ◌*◌, ◌/◌, ◌^◌, ◌<◌, ◌≤◌, min, Bool, true, cond, leb, List, length, get_or, sym, ap, ◌∙◌, subst, inl, inr, mod-eq_of_lt, arith}
 use native.Mathlib.Nat.{div-add-mod}
 use lib.ListN.{length-map}
-use Rattle.std.proofs.lemmas.List.{get_or-take, length-take-le}
 use Rattle.std.proofs.lemmas.Bool.{cases_Bool, cond-true, cond-false, leb-false}
 use Rattle.rounds.specs.declared.span.Span.{Span}
 use Rattle.rounds.specs.Rounds.{nobody, Low, High}
@@ -12,7 +11,6 @@ use Rattle.rounds.specs.Laws.{Closed, Knot, parties}
 use Rattle.rounds.proofs.Closing.{outside_knots_close_lem}
 use Rattle.store.specs.FlatMeaning.{entry_light}
 use Rattle.store.specs.Meaning.{Meaning, Laws}
-use Rattle.store.specs.Sums.{listed}
 use Rattle.store.proofs.Sums.{listed_ext}
 use Rattle.braid.specs.declared.layer.Layer.{Layer}
 use Rattle.braid.specs.declared.braid.Braid.{Braid}
@@ -39,22 +37,17 @@ module _ {S : Type 0} (m : Meaning S) (s : Braid S) (sound : counters.BraidSound
   abbrev wiring : List (List ℕ)
   wiring = counters.rows l
 
-  pub many : length wiring ≡ l.count
-  many = length-take-le l.count l.rows (omega (arith, sound.few, sound.room))
-
-  same_claimant : (i : ℕ) → i < l.count → counters.claimant l i ≡ rules.claimant M wiring T i
+  same_claimant : (i : ℕ) → i < counters.count l → counters.claimant l i ≡ rules.claimant M wiring T i
   same_claimant i h =
       let bit : counters.raised l i ≡ rules.raised M wiring T i = admits.bits i h in
-      let row : counters.row l i ≡ get_or wiring i [] = sym (get_or-take l.count l.rows i [] h) in
-      λ k. cond (bit k) (record { row = row k; floor = 1 }) nobody
+      λ k. cond (bit k) (record { row = counters.row l i; floor = 1 }) nobody
 
   -- the raised slots of the layer are those of the rules, on the same rows
   pub same_claimants : counters.claimants l ≡ rules.claimants M wiring T
   same_claimants =
-      listed_ext l.count (counters.claimant l) (rules.claimant M wiring T) same_claimant
-      ∙ ap (λ n. listed n (rules.claimant M wiring T)) (sym many)
+      listed_ext (counters.count l) (counters.claimant l) (rules.claimant M wiring T) same_claimant
 
-  same_high : (below : ℕ → Span) (R i : ℕ) → i < l.count
+  same_high : (below : ℕ → Span) (R i : ℕ) → i < counters.count l
       → counters.top l i R (High (counters.claimants l) below R i) ≡ rules.high M wiring T below R i
   same_high below zero i h = sym admits.adds
   same_high below (suc R) i h =
@@ -62,7 +55,7 @@ module _ {S : Type 0} (m : Meaning S) (s : Braid S) (sound : counters.BraidSound
       let weight = sym admits.adds in
       λ k. min (weight k) (part k + M * High (same_claimants k) below (suc R) i)
 
-  pub same_span : (below : ℕ → Span) (R i : ℕ) → i < l.count
+  pub same_span : (below : ℕ → Span) (R i : ℕ) → i < counters.count l
       → counters.slot_span l below R i ≡ rules.span M wiring T below R i
   same_span below R i h =
       let bit : counters.raised l i ≡ rules.raised M wiring T i = admits.bits i h in
@@ -85,7 +78,7 @@ module _ {S : Type 0} (m : Meaning S) (s : Braid S) (sound : counters.BraidSound
     -- where all is closed below and nothing is knotted, what was carried is found, and the low part with it is the total
     pub span_closes : (R i : ℕ) → parties (counters.claimants l) < R
         → ((slot : ℕ) → slot < m.slots s.below → Closed (m.spans s.below R) slot)
-        → i < l.count → counters.raised l i ≡ true
+        → i < counters.count l → counters.raised l i ≡ true
         → ((K : ℕ → Bool) → Knot (counters.claimants l) K → K i ≡ true → ⊥)
         → counters.braid_spans m s R i ≡ counters.closed_at (get_or T i 0)
     span_closes R i more closed h up free =
@@ -104,7 +97,7 @@ module _ {S : Type 0} (m : Meaning S) (s : Braid S) (sound : counters.BraidSound
         cond-true (counters.raised l i) _ _ up ∙ (λ k. record { low = low k; high = high k })
 
 module _ {S : Type 0} (m : Meaning S) (depth : ℕ) (L : Ledger) (s : Braid S) (stands : Stands m depth L s) where
-  inside : (i : ℕ) → i < length L.lines → i < s.layer.count
+  inside : (i : ℕ) → i < length L.lines → i < counters.count s.layer
   inside i h = omega (arith, stands.admits.long, length-map L.lines total_of)
 
   -- the rules at the modulus and the rows of the braid's own tables are those at the ledger's

@@ -27,7 +27,7 @@ pub stands_first : {S : Type 0} (m : Meaning S) (depth : ℕ) (below : S) (s : B
     → Fresh (counters.braid_meaning m) s → Stands m depth (opened (m.slots below)) s
 stands_first m depth below s is layer fresh = record {
   sound = fresh.live.sound;
-  admits = subst (counters.BraidAdmits m s) (nil_from_length fresh.live.totals (fresh.live.admitted.long ∙ ap (λ (l : Layer). l.count) layer)) fresh.live.admitted;
+  admits = subst (counters.BraidAdmits m s) (nil_from_length fresh.live.totals (fresh.live.admitted.long ∙ ap (λ (l : Layer). counters.count l) layer)) fresh.live.admitted;
   rows = ap (λ (l : Layer). counters.rows l) layer;
   depth_is = ap (λ (l : Layer). l.depth) layer;
   beneath = ap m.slots is;

@@ -24,7 +24,7 @@ said_by done (Ok n) = done n
 said_by done (Err why) = denied why
 
 module _ {S : Type 0} (m : Meaning S) (laws : Laws m) (s t : Braid S) (depth : ℕ) (L : Ledger) (stands : Stands m depth L s) where
-  count : s.layer.count ≡ length L.lines
+  count : counters.count s.layer ≡ length L.lines
   count = sym stands.admits.long ∙ length-map L.lines total_of
 
   heavy : s.layer.weight ≡ weight L
@@ -42,7 +42,7 @@ module _ {S : Type 0} (m : Meaning S) (laws : Laws m) (s t : Braid S) (depth : �
 
   -- the rows after a call that keeps the wiring
   same_rows : SameWiring s.layer t.layer → counters.rows t.layer ≡ rows L
-  same_rows wiring = (λ i. take (wiring.1 i) (wiring.0 i)) ∙ stands.rows
+  same_rows wiring = wiring.0 ∙ stands.rows
 
   -- x was said, and the braid stands for the ledger that it was entered in
   abbrev Enters : Asked → Said → List ℕ → List ℕ → Said → Type 0
@@ -106,7 +106,7 @@ module _ {S : Type 0} (m : Meaning S) (laws : Laws m) (s t : Braid S) (depth : �
           sound = r.sound;
           admits = subst (counters.BraidAdmits m t) (sym (grown_totals L.lines slot n)) (r.admits (totals L) stands.admits);
           rows = same_rows wiring ∙ sym (grown_rows L.lines slot n);
-          depth_is = wiring.2 ∙ stands.depth_is;
+          depth_is = wiring.1 ∙ stands.depth_is;
           beneath = beneath live ∙ stands.beneath;
           rounds = r.rounds;
         },
@@ -133,7 +133,7 @@ module _ {S : Type 0} (m : Meaning S) (laws : Laws m) (s t : Braid S) (depth : �
           sound = r.sound;
           admits = r.admits (totals L) stands.admits;
           rows = same_rows wiring;
-          depth_is = wiring.2 ∙ stands.depth_is;
+          depth_is = wiring.1 ∙ stands.depth_is;
           beneath = beneath live ∙ stands.beneath;
           rounds = r.rounds;
         },

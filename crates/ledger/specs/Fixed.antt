@@ -6,7 +6,7 @@ use Rattle.store.specs.declared.flat.Flat.{Flat}
 use Rattle.store.specs.FlatMeaning.{cells, flat_meaning}
 use Rattle.store.specs.Sums.{reaching, slot_sums}
 use Rattle.braid.specs.declared.braid.Braid.{Braid}
-use Rattle.braid.specs.BraidMeaning.{modulus, rows, closed_at, BraidAdmits, BraidSound, braid_spans}
+use Rattle.braid.specs.BraidMeaning.{count, modulus, rows, closed_at, BraidAdmits, BraidSound, braid_spans}
 use Rattle.ledger.specs.Rules as rules
 
 -- how often the counter of each slot has run over, counting modulo M, where T has the slots' totals
@@ -25,7 +25,7 @@ pub record Holding (s : Braid Flat) (T : List ℕ) : Type 0 where
 -- the table below and the spans at every number of rounds, settled there or not, are worked out from T
 pub record Computed (s : Braid Flat) (T : List ℕ) : Type 0 where
   pub table : cells s.below ≡ slot_sums (flat_meaning.slots s.below) (rows s.layer) (runs_over (modulus s.layer) T)
-  pub spans : (R i : ℕ) → i < s.layer.count → braid_spans flat_meaning s R i
+  pub spans : (R i : ℕ) → i < count s.layer → braid_spans flat_meaning s R i
       ≡ rules.span (modulus s.layer) (rows s.layer) T (known (modulus s.layer) (rows s.layer) T) R i
 
 -- the same counters on the same rows
@@ -36,7 +36,7 @@ pub record BuiltAlike (s t : Braid Flat) : Type 0 where
 -- the same spans at every number of rounds, and over equally many slots below the same table
 pub record KnownAlike (s t : Braid Flat) : Type 0 where
   pub tables : length (cells s.below) ≡ length (cells t.below) → cells s.below ≡ cells t.below
-  pub spans : (R i : ℕ) → i < s.layer.count → braid_spans flat_meaning s R i ≡ braid_spans flat_meaning t R i
+  pub spans : (R i : ℕ) → i < count s.layer → braid_spans flat_meaning s R i ≡ braid_spans flat_meaning t R i
 
 -- so two braids with the same counters on the same rows that admit the same list know the same of it
 abbrev pub FixedSpans : Type 0

@@ -2,9 +2,11 @@ use Rattle.std.proofs.Common.{◌≡◌, true, Ok, sym, refl, ap, subst, inl, in
 use Rattle.store.specs.Meaning.{Within}
 use Rattle.wiring.specs.Rising.{is_row}
 use Rattle.braid.specs.declared.layer.Layer.{Layer}
+use Rattle.std.proofs.lemmas.List.{length_push}
+use Rattle.braid.specs.BraidMeaning.{rows}
 use Rattle.braid.specs.Layers.{wired}
 use Rattle.braid.specs.Wires.{Wired}
-use Rattle.braid.proofs.Making.{wired_rows, wired_sound, wired_admits}
+use Rattle.braid.proofs.Making.{wired_sound, wired_admits}
 use Rattle.braid.proofs.braid.Braid.wire.Goals as goal
 
 pub returns : goal.returns
@@ -24,8 +26,8 @@ returns g c =
           subst (λ (l : Layer). Wired m s (record { below = s.below; layer = l }) row (Ok c.wire.result)) (sym is) (record {
             answers = ap Ok c.wire.ensures.number;
             below = refl;
-            slots = refl;
-            wiring = wired_rows m s row few room;
+            slots = length_push (rows s.layer) row;
+            wiring = refl;
             depth = refl;
             weight = refl;
             rounds = refl;

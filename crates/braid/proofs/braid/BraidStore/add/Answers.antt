@@ -3,7 +3,7 @@ use Rattle.store.specs.Meaning.{Live, Added}
 use Rattle.store.proofs.Spreading.{no_refusal}
 use Rattle.braid.specs.declared.braid.Braid.{Braid}
 use Rattle.braid.specs.declared.layer.Layer.{Layer}
-use Rattle.braid.specs.BraidMeaning.{braid_meaning}
+use Rattle.braid.specs.BraidMeaning.{count, braid_meaning}
 use Rattle.braid.specs.Layers.{Room, added}
 use Rattle.braid.proofs.Adding.{Carried, none_carried, some_carried, handed, added_whole}
 use Rattle.braid.proofs.braid.BraidStore.add.Given as given
@@ -14,7 +14,7 @@ use Rattle.braid.proofs.braid.BraidStore.add.Goals.{After-from_residual-in_err-a
 not_declined : (g : given.Over) (c : After-from_residual-in_err-add_to_row g) (live : Live (braid_meaning g.S.Store.meaning) c.args.self.now) → ⊥
 not_declined g c live =
     let s = c.args.self.now in
-    let at = c.in_ok-i.ensures.ok in
+    let at = c.in_ok-i.ensures in
     let said = handed g.S.Store.meaning g.S.Store.laws s c.in_ok-i.i c.args.n live.sound (omega arith) (omega (arith, live.sound.light)) live _ _ _ _
     c.row.ensures c.carry-carry.ensures c.in_err-add_to_row.ensures in
     no_refusal _ _ said.answers
@@ -31,8 +31,8 @@ same_layer g c = elim c.if-carry-ge1.branch [
 ]
 
 module _ (g : given.Over) (c : After-count_more g) (live : Live (braid_meaning g.S.Store.meaning) c.args.self.now) where
-  inside : c.in_ok-i.i < c.args.self.now.layer.count
-  inside = let at = c.in_ok-i.ensures.ok in omega arith
+  inside : c.in_ok-i.i < count c.args.self.now.layer
+  inside = let at = c.in_ok-i.ensures in omega arith
 
   fits : c.args.self.now.layer.weight + c.args.n ≤ 2 ^ 40
   fits = omega (arith, live.sound.light)
@@ -65,13 +65,13 @@ module _ (g : given.Over) (c : After-count_more g) (live : Live (braid_meaning g
   added_at =
       let m = g.S.Store.meaning in
       let s = c.args.self.now in
-      let at = c.in_ok-i.ensures.ok in
+      let at = c.in_ok-i.ensures in
       subst (λ slot. Added (braid_meaning m) s (record { below = c.if-carry-ge1.self.below; layer = c.count_more.new.self }) slot c.args.n (Ok c.count_more.new.self.weight))
       at.0 (added_whole m g.S.Store.laws s c.in_ok-i.i c.args.n live.sound inside fits _ _ below (subst Room (same_layer g c) c.count_more.ensures.room) counted)
 
 pub returns-clause-adds : goal.returns-clause-adds
 returns-clause-adds g c = λ live.
-    let at = c.in_ok-i.ensures.ok in
+    let at = c.in_ok-i.ensures in
     record {
       no_slot = λ h. absurd (omega arith);
       ceiling = λ h k. absurd (omega arith);
