@@ -56,7 +56,7 @@ impl Layer {
         self.rows.len() as u16
     }
 
-    // Where a slot stands in the tables.
+    // Where a slot stands in the tables. Each store tests slots against tables of its own.
     pub(crate) fn place(&self, slot: u16) -> Result<Place, Refusal>
         ensures { MatchResult result (λ place. (place ≡ slot) × (place < 1024) × (slot < count self.now)) (λ why. (count self.now ≤ slot) × (why ≡ NoSlot)) }
     {

@@ -49,7 +49,7 @@ impl<'a> Flat<'a> {
         }
     }
 
-    // Where the table has the number of a slot.
+    // Where the table has the number of a slot. Each store tests slots against tables of its own.
     fn place(&self, slot: u16) -> Result<usize, Refusal>
         ensures { MatchResult result (λ place. (place ≡ slot) × (slot < length (cells self.now)) × (place < length self.now.table)) (λ why. (why ≡ Refusal.NoSlot) × (length (cells self.now) ≤ slot)) }
     {
