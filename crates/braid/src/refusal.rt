@@ -2,6 +2,8 @@
 ghost use Rattle.std.specs.Prelude.{◌≡◌};
 ghost use Rattle.braid.specs.Wires.{number};
 
+use std::error::Error;
+use std::fmt;
 use store::refusal::Refusal as StoreRefusal;
 
 #[derive(Clone, Copy, PartialEq, Eq, Debug)]
@@ -27,3 +29,15 @@ impl Refusal {
         }
     }
 }
+
+impl fmt::Display for Refusal {
+    fn fmt<W: fmt::Write>(&self, f: &mut fmt::Formatter<W>) -> fmt::Result {
+        match self {
+            Refusal::Weighted => f.write_str("a new slot where there is weight already"),
+            Refusal::Full => f.write_str("a new slot where there are 1,024 already"),
+            Refusal::Store(why) => write!(f, "{why}"),
+        }
+    }
+}
+
+impl Error for Refusal {}

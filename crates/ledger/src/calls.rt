@@ -3,6 +3,8 @@ ghost use Rattle.std.specs.Prelude.{◌≡◌};
 ghost use Rattle.ledger.specs.Calls.{number};
 
 use braid::refusal::Refusal as BraidRefusal;
+use std::error::Error;
+use std::fmt;
 use store::refusal::Refusal as StoreRefusal;
 use wiring::refusal::Refusal as RowRefusal;
 
@@ -48,6 +50,18 @@ impl Denial {
         }
     }
 }
+
+impl fmt::Display for Denial {
+    fn fmt<W: fmt::Write>(&self, f: &mut fmt::Formatter<W>) -> fmt::Result {
+        match self {
+            Denial::Row(why) => write!(f, "{why}"),
+            Denial::Braid(why) => write!(f, "{why}"),
+            Denial::Store(why) => write!(f, "{why}"),
+        }
+    }
+}
+
+impl Error for Denial {}
 
 impl From<RowRefusal> for Denial {
     ghost use Rattle.ledger.specs.declared.calls.Denial.TheVariants.{Row};

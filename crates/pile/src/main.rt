@@ -41,10 +41,10 @@ fn show_spans<S: Store>(
     rounds: u16,
     work: &mut [u64],
 ) -> anyhow::Result<()> {
-    pile.settle(rounds, work).ok().context("not settled")?;
+    pile.settle(rounds, work).context("not settled")?;
     // by number, since a store is asked for one slot at a time
     for slot in 0..pile.slots() {
-        let Span { low, high } = pile.span(slot).ok().context("no span")?;
+        let Span { low, high } = pile.span(slot).context("no span")?;
         println!(rt; "rounds {rounds}: slot {slot} holds {low} to {high}")?;
     }
     Ok(())
@@ -63,15 +63,13 @@ fn one_braid(rt: &HostRuntime, depth: Depth, work: &mut [u64]) -> anyhow::Result
     Ok(())
 }
 
-// A braid with so many slots, each on three neighbours below.
+// A braid with so many slots, each on three neighbours below, as the tests make too: a program and tests share no crate.
 fn stacked<S: Store + Drop>(below: S, depth: Depth, slots: u16) -> anyhow::Result<Braid<S>> {
     let mut braid = Braid::new(below, depth);
     // the number is what the row is made of
     for i in 0..slots {
-        let row = Row::new(i, i.saturating_add(1), i.saturating_add(2))
-            .ok()
-            .context("no row")?;
-        braid.wire(row).ok().context("not wired")?;
+        let row = Row::new(i, i.saturating_add(1), i.saturating_add(2))?;
+        braid.wire(row)?;
     }
     Ok(braid)
 }
@@ -82,7 +80,7 @@ fn three_braids(rt: &HostRuntime, depth: Depth, work: &mut [u64]) -> anyhow::Res
     let middle = stacked(bottom, depth, 5)?;
     let mut top: Braid<Braid<Braid<Flat>>> = stacked(middle, depth, 3)?;
     for (slot, units) in [(0, 1000), (1, 70), (2, 3)] {
-        top.add(slot, units).ok().context("not added")?;
+        top.add(slot, units).context("not added")?;
     }
     println!(rt; "a pile of three: 1000, 70 and 3 units were added")?;
     for rounds in [0, 1, 2, 12] {
@@ -92,7 +90,7 @@ fn three_braids(rt: &HostRuntime, depth: Depth, work: &mut [u64]) -> anyhow::Res
 }
 
 fn run(rt: &HostRuntime) -> anyhow::Result<()> {
-    let depth = Depth::new(2).ok().context("no depth")?;
+    let depth = Depth::new(2)?;
     let mut work = [0; 7168];
     one_braid(rt, depth, &mut work)?;
     three_braids(rt, depth, &mut work)

@@ -3,12 +3,10 @@
 use Rattle.std.specs.Prelude.{◌≡◌, ℕ, ◌≤◌, List, [], ◌∷◌, slice_index, slice_index_or}
 use Rattle.rounds.specs.declared.span.Span.{Span}
 use Rattle.rounds.specs.Rounds.{Claimant, load, message, Low, High}
+use Rattle.rounds.specs.Spans.{closed_at}
 
 abbrev pub on : List ℕ → Claimant
 on row = record { row = row; floor = 0 }
-
-abbrev pub closed_at : ℕ → Span
-closed_at n = record { low = n; high = n }
 
 abbrev pub amounts : List ℕ → ℕ → ℕ
 amounts xs i = slice_index xs i

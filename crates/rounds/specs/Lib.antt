@@ -1,3 +1,4 @@
+pub mod Spans
 pub mod Rounds
 pub mod Laws
 pub mod Cases

@@ -1,6 +1,7 @@
 // A span: what is known of a total. It lies from `low` to `high`, both of them included, and is
 // known exactly where the two are equal: the span is then closed.
 ghost use Rattle.std.specs.Prelude.{◌≡◌};
+ghost use Rattle.rounds.specs.Spans.{closed_at};
 
 #[derive(Clone, Copy, PartialEq, Eq, Debug)]
 pub struct Span {
@@ -11,7 +12,7 @@ pub struct Span {
 impl Span {
     // The span of a total that is known exactly.
     pub fn closed(total: u64) -> Span
-        ensures { result ≡ record { low = total; high = total } }
+        ensures { result ≡ closed_at total }
     {
         Span {
             low: total,

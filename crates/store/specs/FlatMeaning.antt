@@ -1,7 +1,7 @@
 -- What a flat store means: it admits one list, its table, and knows every entry exactly.
 use Rattle.std.specs.Prelude.{◌≡◌, ℕ, zero, suc, ◌≤◌, List, [], ◌∷◌, length, take, drop, slice_index}
 use Rattle.std.proofs.Common.{ap, ◌∙◌, arith, length-take}
-use Rattle.rounds.specs.declared.span.Span.{Span}
+use Rattle.rounds.specs.Spans.{closed_at}
 use Rattle.store.specs.Totals.{total}
 use Rattle.store.specs.FlatView.{FlatSound}
 use Rattle.store.specs.Meaning.{Meaning, Laws}
@@ -15,16 +15,13 @@ cells f = take 1024 f.table
 abbrev pub behind : Flat → List ℕ
 behind f = drop 1024 f.table
 
-abbrev pub twice : ℕ → Span
-twice n = record { low = n; high = n }
-
 abbrev pub flat_meaning : Meaning Flat
 flat_meaning = record {
   slots = λ f. length (cells f);
   weight = λ f. f.weight;
   rounds = λ f. f.rounds;
   admits = λ f T. T ≡ cells f;
-  spans = λ f R slot. twice (slice_index (cells f) slot);
+  spans = λ f R slot. closed_at (slice_index (cells f) slot);
   sound = λ f. FlatSound f.table f.weight;
 }
 

@@ -5,6 +5,8 @@ ghost use Rattle.store.specs.Refusals.{number};
 
 use decoder::refusal::Refusal as DecoderRefusal;
 use decoder::unfit::Unfit;
+use std::error::Error;
+use std::fmt;
 
 #[derive(Clone, Copy, PartialEq, Eq, Debug)]
 pub enum Refusal {
@@ -26,6 +28,19 @@ impl Refusal {
         *self as u8
     }
 }
+
+impl fmt::Display for Refusal {
+    fn fmt<W: fmt::Write>(&self, f: &mut fmt::Formatter<W>) -> fmt::Result {
+        f.write_str(match self {
+            Refusal::NoSlot => "a slot that is not there",
+            Refusal::Ceiling => "a weight above the ceiling of 2^40",
+            Refusal::Rounds => "more than 2,048 rounds",
+            Refusal::Work => "a work area of fewer than 7,168 numbers",
+        })
+    }
+}
+
+impl Error for Refusal {}
 
 // What the decoder refuses, a store refuses under the same number.
 impl From<DecoderRefusal> for Refusal {

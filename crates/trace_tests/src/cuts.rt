@@ -61,6 +61,7 @@ fn every_cut(rt: HostRuntime) {
 
 #[test]
 fn every_kind_byte(rt: HostRuntime) {
+    // every byte
     for kind in 0..=255u8 {
         let expected = match kind {
             4 => Ok(0),

@@ -5,6 +5,7 @@ use crate::second::{Flaw, Sighted, Tally, watch};
 use std::alloc::{AllocError, Global};
 use std::test::Fail;
 use trace::fault::Fault;
+use trace::kind::Kind;
 use trace::survey::Survey;
 
 // A row of numbers that is the same for the same seed.
@@ -35,15 +36,19 @@ impl Dice {
 }
 
 fn push_record(trace: &mut Vec<u8>, dice: &mut Dice) -> Result<(), AllocError> {
-    let (kind, size) = match dice.below(40) {
-        0..=12 => (1, 14),
-        13..=26 => (2, 12),
-        27..=36 => (3, 16),
-        37..=38 => (4, 0),
-        _ => ((dice.seed & 255) as u8, 0),
+    let kind = match dice.below(40) {
+        0..=12 => Kind::Enrol,
+        13..=26 => Kind::Amount,
+        27..=36 => Kind::Remark,
+        37..=38 => Kind::End,
+        // any byte, mostly no kind
+        _ => {
+            trace.push((dice.seed & 255) as u8)?;
+            return Ok(());
+        }
     };
-    trace.push(kind)?;
-    for _ in 0..size {
+    trace.push(kind as u8)?;
+    for _ in 0..kind.body_len() {
         trace.push(dice.byte())?;
     }
     Ok(())

@@ -1,4 +1,6 @@
-// Which rows and depths are made.
+// Which rows and depths are made, and what is said where none is.
+use std::fmt::Display;
+use std::process::Abort;
 use std::test::Fail;
 use wiring::depth::Depth;
 use wiring::refusal::Refusal;
@@ -23,6 +25,7 @@ fn rows(rt: HostRuntime) -> Result<(), Fail> {
 
 #[test]
 fn depths(rt: HostRuntime) -> Result<(), Fail> {
+    // every byte
     for bits in 0..=255u8 {
         let expected = match bits {
             2..=16 => Ok(bits),
@@ -41,4 +44,20 @@ fn conversions(rt: HostRuntime) -> Result<(), Fail> {
     let row = Row::new(4, 5, 9)?;
     assert!(rt; <[u16; 3]>::from(row) == [4, 5, 9]);
     Ok(())
+}
+
+fn reads(rt: &(impl Abort + AllocGlobal), why: &impl Display, expected: &str) -> Result<(), Fail> {
+    let text = why.to_string(rt.alloc())?;
+    assert_eq!(rt; text.as_str(), expected);
+    Ok(())
+}
+
+#[test]
+fn refusals_in_words(rt: HostRuntime) -> Result<(), Fail> {
+    reads(
+        &rt,
+        &Refusal::Unordered,
+        "slots that are not three in strictly rising order",
+    )?;
+    reads(&rt, &Refusal::Bits, "a depth that is not 2 to 16 bits")
 }

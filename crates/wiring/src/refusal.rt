@@ -2,6 +2,9 @@
 ghost use Rattle.std.specs.Prelude.{◌≡◌};
 ghost use Rattle.wiring.specs.Wiring.{number};
 
+use std::error::Error;
+use std::fmt;
+
 #[derive(Clone, Copy, PartialEq, Eq, Debug)]
 pub enum Refusal {
     // the slot numbers are not three in strictly rising order
@@ -18,3 +21,14 @@ impl Refusal {
         *self as u8
     }
 }
+
+impl fmt::Display for Refusal {
+    fn fmt<W: fmt::Write>(&self, f: &mut fmt::Formatter<W>) -> fmt::Result {
+        f.write_str(match self {
+            Refusal::Unordered => "slots that are not three in strictly rising order",
+            Refusal::Bits => "a depth that is not 2 to 16 bits",
+        })
+    }
+}
+
+impl Error for Refusal {}
