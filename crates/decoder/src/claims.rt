@@ -11,7 +11,7 @@ use wiring::row::Row;
 // One claimant. The limits keep every sum of messages below 2^64.
 #[derive(Clone, Copy)]
 pub(crate) struct Claim {
-    pub(crate) row: Option<[u16; PLACES]>,
+    pub(crate) row: Option<Row>,
     pub(crate) floor: u64,
     ghost rising: { rises row ≡ true },
     ghost reaches: { within row ≡ true },
@@ -20,10 +20,7 @@ pub(crate) struct Claim {
 
 // A claimant that takes no part. By hand, since a struct with ghost fields has no derived default.
 impl Default for Claim {
-    fn default() -> Claim
-        ensures row { result.row ≡ None }
-        ensures floor { result.floor ≡ 0 }
-    {
+    fn default() -> Claim {
         Claim {
             row: None,
             floor: 0,
@@ -39,18 +36,18 @@ impl Claim {
         ensures value { result.now ≡ slots_in self.now.row }
         ensures short { length result.now ≤ 3 }
     {
-        self.row.as_ref().map_or(&[], |row| row.as_slice())
+        self.row.as_ref().map_or(&[], |row| row.slots())
     }
 
     // What it has sent to the slot, 0 if it does not use it.
     pub(crate) fn sent(&self, messages: &[u64; PLACES], slot: u16) -> u64
         ensures { result ≡ to slot (slots_in self.now.row) messages.now }
     {
-        // a match, since with `map_or` no proof was found of what its closure reads
-        match self.slots().iter().position(|own| *own == slot) {
-            Some(place) => messages[place],
-            None => 0,
-        }
+        self.slots()
+            .iter()
+            .zip(messages)
+            .find(|(own, _)| **own == slot)
+            .map_or(0, |(_, message)| *message)
     }
 }
 
@@ -93,7 +90,7 @@ impl Claims {
         if !reaches(row.slots()) {
             return Err(Unfit::Slot);
         }
-        let row = Some(row.into());
+        let row = Some(row);
         self.entries.push(Claim { row, floor });
         Ok(number)
     }
@@ -104,7 +101,8 @@ impl Claims {
         ensures grows { claimants self.new ≡ grown result (claimants self.old) nobody }
     {
         let number = next_number(&self.entries)?;
-        self.entries.push(Claim::default());
+        let row = None;
+        self.entries.push(Claim { row, floor: 0 });
         Ok(number)
     }
 

@@ -40,6 +40,7 @@ pub fn decode(
         work.old work.new lows.old lows.new highs.old highs.new }
 {
     admitted(rounds, work.len())?;
-    run(claims, spans, rounds, &mut work[..AREA], lows, highs);
+    let area = work.first_chunk_mut::<AREA>().unwrap();
+    run(claims, spans, rounds, area, lows, highs);
     Ok(rounds)
 }

@@ -45,9 +45,10 @@ impl Round<'_> {
             result ≡ rest cs (λ j. message cs (span_at self.now.spans.now) self.now.past j slot) slot i }
     {
         let mut total = 0;
-        for (j, claim) in self.claims.entries.as_slice().iter().enumerate() {
+        let claims = self.claims.entries.as_slice();
+        for (j, (claim, sent)) in claims.iter().zip(self.old).enumerate() {
             if j != i {
-                total += claim.sent(&self.old[j], slot);
+                total += claim.sent(sent, slot);
             }
         }
         total

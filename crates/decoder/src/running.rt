@@ -10,7 +10,7 @@ use crate::claims::Claims;
 use crate::limits::{ENTRIES, PLACES};
 use crate::round::{Messages, Round};
 use crate::spans::Spans;
-use crate::work::clear;
+use crate::work::{AREA, clear};
 
 // Round 0: the floor of each claimant that takes part is its message to each slot, and its low.
 fn start(claims: &Claims, messages: &mut Messages, lows: &mut [u64; ENTRIES])
@@ -31,15 +31,15 @@ pub(crate) fn run(
     claims: &Claims,
     spans: &Spans,
     rounds: u16,
-    area: &mut [u64],
+    area: &mut [u64; AREA],
     lows: &mut [u64; ENTRIES],
     highs: &mut [u64; ENTRIES],
 )
-    requires { length area.old ≡ 7168 }
     ensures low { let cs = claimants claims.now in Tabled cs (Low cs (span_at spans.now) rounds) lows.old lows.new }
     ensures high { let cs = claimants claims.now in
         1 ≤ rounds → Tabled cs (High cs (span_at spans.now) rounds) highs.old highs.new }
     ensures high_untouched { rounds ≡ 0 → highs.new ≡ highs.old }
+    ensures long { length area.new ≡ 7168 }
     ensures clear { (k : ℕ) → k < 7168 → slice_index area.new k ≡ 0 }
 {
     let (rows, _) = area.as_chunks_mut::<PLACES>();

@@ -12,11 +12,12 @@ const TABLE: u64 = 55;
 const WORK: u64 = 99;
 
 // Flows on these rows.
-fn enrol(claims: &mut Claims, rows: &[[u16; 3]]) -> Result<(), Fail> {
+fn flows(rows: &[[u16; 3]]) -> Result<Claims, Fail> {
+    let mut claims = Claims::new();
     for slots in rows {
         claims.push(Row::try_from(slots.as_slice())?, 0)?;
     }
-    Ok(())
+    Ok(claims)
 }
 
 fn closed(totals: &[u64]) -> Result<Spans, Fail> {
@@ -64,8 +65,7 @@ fn expect(
 // 7 on slots 0, 1, 2 and 5 on slots 2, 3, 4.
 #[test]
 fn two_that_share_a_slot(rt: HostRuntime) -> Result<(), Fail> {
-    let mut claims = Claims::new();
-    enrol(&mut claims, &[[0, 1, 2], [2, 3, 4]])?;
+    let claims = flows(&[[0, 1, 2], [2, 3, 4]])?;
     let spans = closed(&[7, 7, 12, 5, 5])?;
     expect(&rt, &claims, &spans, 0, &[0, 0], &[])?;
     expect(&rt, &claims, &spans, 1, &[0, 0], &[7, 5])?;
@@ -76,8 +76,7 @@ fn two_that_share_a_slot(rt: HostRuntime) -> Result<(), Fail> {
 // 7 and 5, both on slots 0, 1, 2.
 #[test]
 fn two_on_one_row(rt: HostRuntime) -> Result<(), Fail> {
-    let mut claims = Claims::new();
-    enrol(&mut claims, &[[0, 1, 2], [0, 1, 2]])?;
+    let claims = flows(&[[0, 1, 2], [0, 1, 2]])?;
     let spans = closed(&[12, 12, 12])?;
     for rounds in [1, 2, 3, 4, 1025, 2048] {
         expect(&rt, &claims, &spans, rounds, &[0, 0], &[12, 12])?;
@@ -88,8 +87,7 @@ fn two_on_one_row(rt: HostRuntime) -> Result<(), Fail> {
 // 4, 2 and 1 on slots 0, 1, 2 and 1, 2, 3 and 0, 2, 3.
 #[test]
 fn three_that_share_two(rt: HostRuntime) -> Result<(), Fail> {
-    let mut claims = Claims::new();
-    enrol(&mut claims, &[[0, 1, 2], [1, 2, 3], [0, 2, 3]])?;
+    let claims = flows(&[[0, 1, 2], [1, 2, 3], [0, 2, 3]])?;
     let spans = closed(&[5, 6, 7, 3])?;
     expect(&rt, &claims, &spans, 1, &[0, 0, 0], &[5, 3, 3])?;
     expect(&rt, &claims, &spans, 2, &[3, 1, 0], &[5, 3, 3])
@@ -99,8 +97,7 @@ fn three_that_share_two(rt: HostRuntime) -> Result<(), Fail> {
 // were it counted, the first flow would have the high 0.
 #[test]
 fn own_replies_do_not_count(rt: HostRuntime) -> Result<(), Fail> {
-    let mut claims = Claims::new();
-    enrol(&mut claims, &[[0, 2, 3], [1, 2, 3], [0, 1, 3]])?;
+    let claims = flows(&[[0, 2, 3], [1, 2, 3], [0, 1, 3]])?;
     let spans = closed(&[4, 0, 2, 3])?;
     expect(&rt, &claims, &spans, 3, &[4, 1, 2], &[1, 0, 0])
 }
