@@ -20,7 +20,8 @@ use Rattle.store.proofs.Sums.{length_listed, get_or_listed, sum_ext, get_or_sums
 use Rattle.wiring.specs.Rising.{is_row}
 use Rattle.braid.specs.declared.layer.Layer.{Layer}
 use Rattle.braid.specs.declared.braid.Braid.{Braid}
-use Rattle.braid.specs.BraidMeaning.{count, modulus, rows, row, part, raised, claimant, claimants, top, closed_at}
+use Rattle.rounds.specs.Spans.{closed_at}
+use Rattle.braid.specs.BraidMeaning.{count, modulus, rows, row, part, raised, claimant, claimants, top}
 use Rattle.braid.specs.BraidMeaning.{carried, BraidAdmits, BraidSound, braid_spans, braid_meaning}
 
 -- who the claimants of a layer are

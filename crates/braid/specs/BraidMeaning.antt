@@ -1,6 +1,7 @@
 -- What a braid means: which totals it admits, and what it knows of each slot.
 use Rattle.std.specs.Prelude.{◌≡◌, ℕ, zero, suc, ◌+◌, ◌*◌, ◌/◌, ◌%◌, ◌^◌, ◌<◌, ◌≤◌, min, Bool, true, cond, List, [], length, ◌==◌, nat_le, slice_index, slice_index_or}
 use Rattle.rounds.specs.declared.span.Span.{Span}
+use Rattle.rounds.specs.Spans.{closed_at}
 use Rattle.rounds.specs.Rounds.{Claimant, nobody, Low, High}
 use Rattle.store.specs.Meaning.{Meaning, Within}
 use Rattle.store.specs.Sums.{listed, slot_sums}
@@ -48,9 +49,6 @@ top l i (suc R) high = min l.weight (part l i + modulus l * high)
 
 abbrev pub raised_span : Layer → ℕ → ℕ → ℕ → ℕ → Span
 raised_span l i R low high = record { low = min l.weight (part l i + modulus l * low); high = top l i R high }
-
-abbrev pub closed_at : ℕ → Span
-closed_at n = record { low = n; high = n }
 
 -- the span of a slot, where the slots below have these spans at the same rounds
 abbrev pub slot_span : Layer → (ℕ → Span) → ℕ → ℕ → Span

@@ -3,7 +3,8 @@ use Rattle.std.specs.Prelude.{◌≡◌, ℕ, ◌+◌, ◌/◌, ◌%◌, ◌^◌
 use Rattle.rounds.specs.declared.span.Span.{Span}
 use Rattle.braid.specs.declared.layer.Layer.{Layer}
 use Rattle.store.specs.Meaning.{Within}
-use Rattle.braid.specs.BraidMeaning.{row, rows, count, part, raised, raised_span, closed_at}
+use Rattle.rounds.specs.Spans.{closed_at}
+use Rattle.braid.specs.BraidMeaning.{row, rows, count, part, raised, raised_span}
 
 -- the tables that are written one entry at a time have 1,024 entries
 pub record Room (l : Layer) : Type 0 where

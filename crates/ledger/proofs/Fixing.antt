@@ -11,7 +11,8 @@ use Rattle.store.specs.Sums.{reaching, slot_sums}
 use Rattle.store.proofs.Rows.{within_has}
 use Rattle.store.proofs.Sums.{sum_none, length_sums, get_or_sums}
 use Rattle.braid.specs.declared.braid.Braid.{Braid}
-use Rattle.braid.specs.BraidMeaning.{modulus, rows, closed_at}
+use Rattle.rounds.specs.Spans.{closed_at}
+use Rattle.braid.specs.BraidMeaning.{modulus, rows}
 use Rattle.ledger.specs.Rules as rules
 use Rattle.ledger.specs.Fixed.{runs_over, known, Holding, Computed, BuiltAlike, KnownAlike, FixedSpans}
 use Rattle.ledger.proofs.Ruling.{same_span}

@@ -15,6 +15,7 @@ use Rattle.store.proofs.Sums.{listed_ext}
 use Rattle.braid.specs.declared.layer.Layer.{Layer}
 use Rattle.braid.specs.declared.braid.Braid.{Braid}
 use Rattle.braid.specs.BraidMeaning as counters
+use Rattle.rounds.specs.Spans.{closed_at}
 use Rattle.braid.specs.BraidLaws.{proper, raised_takes, uses_within, fitting}
 use Rattle.ledger.specs.Ledger.{Ledger, total_of, rows, totals}
 use Rattle.ledger.specs.Rules as rules
@@ -70,7 +71,7 @@ module _ {S : Type 0} (m : Meaning S) (s : Braid S) (sound : counters.BraidSound
         | inr down ↦
             let off = sym bit ∙ down in
             let whole : counters.part l i ≡ get_or T i 0 = part ∙ mod-eq_of_lt (leb-false M (get_or T i 0) off) in
-            cond-false (counters.raised l i) _ _ down ∙ ap counters.closed_at whole
+            cond-false (counters.raised l i) _ _ down ∙ ap closed_at whole
             ∙ sym (cond-false (rules.raised M wiring T i) _ _ off)
       ]
 
@@ -80,7 +81,7 @@ module _ {S : Type 0} (m : Meaning S) (s : Braid S) (sound : counters.BraidSound
         → ((slot : ℕ) → slot < m.slots s.below → Closed (m.spans s.below R) slot)
         → i < counters.count l → counters.raised l i ≡ true
         → ((K : ℕ → Bool) → Knot (counters.claimants l) K → K i ≡ true → ⊥)
-        → counters.braid_spans m s R i ≡ counters.closed_at (get_or T i 0)
+        → counters.braid_spans m s R i ≡ closed_at (get_or T i 0)
     span_closes R i more closed h up free =
         let N = m.slots s.below in
         let under = m.spans s.below R in

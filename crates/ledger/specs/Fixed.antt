@@ -6,7 +6,8 @@ use Rattle.store.specs.declared.flat.Flat.{Flat}
 use Rattle.store.specs.FlatMeaning.{cells, flat_meaning}
 use Rattle.store.specs.Sums.{reaching, slot_sums}
 use Rattle.braid.specs.declared.braid.Braid.{Braid}
-use Rattle.braid.specs.BraidMeaning.{count, modulus, rows, closed_at, BraidAdmits, BraidSound, braid_spans}
+use Rattle.rounds.specs.Spans.{closed_at}
+use Rattle.braid.specs.BraidMeaning.{count, modulus, rows, BraidAdmits, BraidSound, braid_spans}
 use Rattle.ledger.specs.Rules as rules
 
 -- how often the counter of each slot has run over, counting modulo M, where T has the slots' totals
