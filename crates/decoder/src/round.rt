@@ -83,13 +83,13 @@ impl Round<'_> {
     fn tightest_but(&self, replies: &[u64], skip: usize) -> u64
         ensures { result ≡ tightest (odd (suc self.now.past)) (but skip replies.now) }
     {
-        let mut best = None;
-        for (place, reply) in replies.iter().enumerate() {
-            if place != skip {
-                best = Some(self.tighter(best.unwrap_or(*reply), *reply));
-            }
-        }
-        best.unwrap_or(0)
+        replies
+            .iter()
+            .enumerate()
+            .filter(|(place, _)| *place != skip)
+            .map(|(_, reply)| *reply)
+            .reduce(|x, y| self.tighter(x, y))
+            .unwrap_or(0)
     }
 
     // Each claimant that takes part answers the replies of its slots: each slot with what the others replied.
