@@ -32,6 +32,7 @@ impl Round<'_> {
     }
 
     // The lesser of two bounds from above, or the greater of two from below.
+    // It goes by a flag, as the definitions of the rounds do.
     fn tighter(&self, x: u64, y: u64) -> u64
         ensures { result ≡ tighter (odd (suc self.now.past)) x y }
     {
@@ -103,6 +104,7 @@ impl Round<'_> {
             if !row.is_empty() {
                 let replies = self.replies(row, i);
                 let replies = replies.as_slice();
+                // by index: of a loop over `iter_mut()` behind an adapter no proof knows what it wrote
                 fresh[i] = [
                     self.tightest_but(replies, 0),
                     self.tightest_but(replies, 1),
