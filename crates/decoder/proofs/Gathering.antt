@@ -1,7 +1,12 @@
 -- The tightest of some replies, gathered one by one, and what it is of the replies but one; and the message that is found at a slot's place.
-use Rattle.std.proofs.Common.{◌≡◌, ℕ, zero, suc, ◌+◌, ◌<◌, ◌≤◌, Bool, true, false, cond, eqb, ◌≢◌, List, [], ◌∷◌, ◌++◌, map, length, get_or, take, Some, None, Option, unwrap_or, sym, refl, ap, ◌∙◌, inl, inr, arith}
-use Rattle.std.proofs.lemmas.List.{take_more, length-take-le}
+use Rattle.std.proofs.Common.{◌≡◌, ℕ, zero, suc, ◌+◌, ◌<◌, ◌≤◌, Bool, true, false, cond, not, eqb, List, [], ◌∷◌, map, length, get_or, Some, None, Option, unwrap_or, sym, refl, ap, ◌∙◌, subst, inl, inr, arith}
 use Rattle.std.proofs.lemmas.Bool.{cases_eq, cond-true, cond-false, eq-eqb, ne_eqb, or_parts, eqb-false}
+use Rattle.std.proofs.lemmas.Iterator.{YieldsList}
+use Rattle.std.proofs.lemmas.Iterator.Consumers.{reduce_from_yields_List}
+use Rattle.std.specs.Fn.{Called}
+use Rattle.std.specs.Iterator.{ReducesItems, FoldTurn}
+use Rattle.std.specs.List.{FoldsTo, enumerate_from, filter, fold, reduce}
+use denote.Param.Members.{Mut}
 use Rattle.rounds.specs.Rounds.{has, besides, tighter, tightest}
 use Rattle.rounds.specs.Laws.{Distinct}
 use Rattle.rounds.proofs.Rows.{has_none, has_cons}
@@ -46,64 +51,51 @@ three_at tell (suc zero) h = refl
 three_at tell (suc (suc zero)) h = refl
 three_at tell (suc (suc (suc p))) h = absurd (omega arith)
 
--- The tightest of some replies, where there are any.
-abbrev pub known : Bool → List ℕ → Option ℕ
-known up [] = None
-known up (x ∷ xs) = Some (tightest up (x ∷ xs))
-
-tighter_same : (up : Bool) (x : ℕ) → tighter up x x ≡ x
-tighter_same true x = omega arith
-tighter_same false x = omega arith
-
 tighter_assoc : (up : Bool) (x y z : ℕ) → tighter up x (tighter up y z) ≡ tighter up (tighter up x y) z
 tighter_assoc true x y z = omega arith
 tighter_assoc false x y z = omega arith
 
-tightest_push : (up : Bool) (y : ℕ) (ys : List ℕ) (x : ℕ) → tightest up (y ∷ (ys ++ x ∷ [])) ≡ tighter up (tightest up (y ∷ ys)) x
-tightest_push up y [] x = refl
-tightest_push up y (z ∷ zs) x = ap (tighter up y) (tightest_push up z zs x) ∙ tighter_assoc up y (tightest up (z ∷ zs)) x
+fold_tightest : (up : Bool) (x : ℕ) (xs : List ℕ) → fold (tighter up) x xs ≡ tightest up (x ∷ xs)
+fold_tightest up x [] = refl
+fold_tightest up x (y ∷ []) = refl
+fold_tightest up x (y ∷ (z ∷ zs)) =
+    fold_tightest up (tighter up x y) (z ∷ zs) ∙ sym (tighter_assoc up x y (tightest up (z ∷ zs)))
 
-known_push : (up : Bool) (xs : List ℕ) (x : ℕ) → known up (xs ++ x ∷ []) ≡ Some (tighter up (unwrap_or (known up xs) x) x)
-known_push up [] x = ap Some (sym (tighter_same up x))
-known_push up (y ∷ ys) x = ap Some (tightest_push up y ys x)
+-- The tightest, gathered one by one.
+pub reduce_tightest : (up : Bool) (xs : List ℕ) → unwrap_or (reduce (tighter up) xs) 0 ≡ tightest up xs
+reduce_tightest up [] = refl
+reduce_tightest up (x ∷ xs) = fold_tightest up x xs
 
-pub known_all : (up : Bool) (xs : List ℕ) → unwrap_or (known up xs) 0 ≡ tightest up xs
-known_all up [] = refl
-known_all up (x ∷ xs) = refl
+-- Elements that are numbered from n, but the one with some number.
+abbrev pub unless : ℕ → ℕ × ℕ → Bool
+unless skip p = not (eqb p.0 skip)
 
-but_at : (p : ℕ) (xs : List ℕ) (x : ℕ) → length xs ≡ p → but p (xs ++ x ∷ []) ≡ but p xs
-but_at zero [] x h = refl
-but_at (suc p) [] x h = absurd (omega arith)
-but_at zero (y ∷ ys) x h = absurd (omega arith)
-but_at (suc p) (y ∷ ys) x h = ap (λ l. y ∷ l) (but_at p ys x (omega arith))
+all_left : (skip n : ℕ) (xs : List ℕ) → skip < n → map (λ (p : ℕ × ℕ). p.1) (filter (unless skip) (enumerate_from n xs)) ≡ xs
+all_left skip n [] lt = refl
+all_left skip n (x ∷ xs) lt = rw (ne_eqb n skip (omega arith)) (ap (λ l. x ∷ l) (all_left skip (n + 1) xs (omega arith)))
 
-but_push : (p : ℕ) (xs : List ℕ) (x : ℕ) → length xs ≢ p → but p (xs ++ x ∷ []) ≡ but p xs ++ x ∷ []
-but_push zero [] x d = absurd (d refl)
-but_push (suc p) [] x d = refl
-but_push zero (y ∷ ys) x d = refl
-but_push (suc p) (y ∷ ys) x d = ap (λ l. y ∷ l) (but_push p ys x (λ e. d (ap suc e)))
+pub others_left : (p skip n : ℕ) (xs : List ℕ) → n + p ≡ skip → map (λ (p : ℕ × ℕ). p.1) (filter (unless skip) (enumerate_from n xs)) ≡ but p xs
+others_left p skip n [] e = refl
+others_left zero skip n (x ∷ xs) e = rw (eq-eqb n skip (omega arith)) (all_left skip (n + 1) xs (omega arith))
+others_left (suc p) skip n (x ∷ xs) e = rw (ne_eqb n skip (omega arith)) (ap (λ l. x ∷ l) (others_left p skip (n + 1) xs (omega arith)))
+
+-- `reduce` at a closure that gives h of its two arguments.
+module _ {A F : Type 0} (g : Mut F (A × (A × Unit {0})) A) (h : A → A → A) (f : F)
+    (k : (a x b : A) (q : F) → Called g f (a, (x, tt)) b q → (q ≡ f) × (b ≡ h a x)) where
+  turns : (xs : List A) (p q : F × A) → p.0 ≡ f → FoldsTo (FoldTurn g) p xs q → FoldsTo (λ a x b. b ≡ h a x) p.1 xs q.1
+  turns [] p q e d = ap (λ (w : F × A). w.1) d
+  turns (x ∷ xs) p q e d =
+      let m = k p.1 x d.0.1 d.0.0 (subst (λ w. Called g w (p.1, (x, tt)) d.0.1 d.0.0) e d.1) in
+      (d.0.1, m.1, turns xs d.0 q m.0 d.2)
+
+  pub reduced : {S : Type 0} {steps : S → Option A → S → Type 0} (s : S) (r : Option A) (all : List A) → ReducesItems steps g s f r → YieldsList steps (λ x. x) s all → r ≡ reduce h all
+  reduced s None all d road = reduce_from_yields_List h s None d road
+  reduced s (Some y) all d road = reduce_from_yields_List h s (Some y) (d.0, d.1, d.3, turns d.1 (f, d.0) (d.2, y) refl d.4) road
 
 pub but_none : (p : ℕ) (xs : List ℕ) → length xs ≤ p → but p xs ≡ xs
 but_none p [] h = refl
 but_none zero (x ∷ xs) h = absurd (omega arith)
 but_none (suc p) (x ∷ xs) h = ap (λ l. x ∷ l) (but_none p xs (omega arith))
-
--- One more turn of the loop that gathers, at the place that is skipped and at another.
-module _ (up : Bool) (xs : List ℕ) (skip p : ℕ) (lt : p < length xs) where
-  front : length (take p xs) ≡ p
-  front = length-take-le p xs (omega arith)
-
-  pub gather_skip : p ≡ skip → known up (but skip (take (p + 1) xs)) ≡ known up (but skip (take p xs))
-  gather_skip e =
-      ap (λ l. known up (but skip l)) (take_more xs p 0 lt)
-      ∙ ap (known up) (but_at skip (take p xs) (get_or xs p 0) (front ∙ e))
-
-  pub gather_more : p ≢ skip →
-      known up (but skip (take (p + 1) xs)) ≡ Some (tighter up (unwrap_or (known up (but skip (take p xs))) (get_or xs p 0)) (get_or xs p 0))
-  gather_more d =
-      ap (λ l. known up (but skip l)) (take_more xs p 0 lt)
-      ∙ ap (known up) (but_push skip (take p xs) (get_or xs p 0) (λ e. d (sym front ∙ e)))
-      ∙ known_push up (but skip (take p xs)) (get_or xs p 0)
 
 besides_none : (s : ℕ) (row : List ℕ) → has s row ≡ false → besides s row ≡ row
 besides_none s [] h = refl

@@ -1,6 +1,6 @@
 -- What the rounds take from the types of their inputs: rows of three slots that rise, and small floors and spans.
 use Rattle.std.proofs.Common.{◌≡◌, ℕ, zero, suc, ◌^◌, ◌<◌, ◌≤◌, Bool, true, false, eqb, ltb, List, [], ◌∷◌, map, length, get_or, Some, None, Option, sym, refl, ap, ◌∙◌, arith}
-use Rattle.std.proofs.lemmas.Bool.{and_parts, eqb-true, ltb-true, ne_eqb, or_from}
+use Rattle.std.proofs.lemmas.Bool.{and_parts, ltb-true, ne_eqb, or_from}
 use Rattle.std.proofs.lemmas.List.{get_or-map, length-map}
 use Rattle.wiring.specs.Rising.{rising}
 use Rattle.rounds.specs.Rounds.{Claimant, nobody, row_of, floor_of, has, besides, edge, odd, message}
@@ -76,10 +76,6 @@ rising_distinct (a ∷ []) r = (refl, tt)
 rising_distinct (a ∷ (b ∷ row)) r =
     let p = and_parts (ltb a b) (rising (b ∷ row)) r in
     (above a b row (ltb-true a b p.0) p.1, rising_distinct (b ∷ row) p.1)
-
-pub row_short : (row : Option (List ℕ)) → rises row ≡ true → length (slots_in row) ≤ 3
-row_short None r = omega arith
-row_short (Some row) r = omega (arith, eqb-true _ _ (and_parts (eqb (length row) 3) (rising row) r).0)
 
 pub row_distinct : (row : Option (List ℕ)) → rises row ≡ true → Distinct (slots_in row)
 row_distinct None r = tt

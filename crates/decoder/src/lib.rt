@@ -24,7 +24,7 @@ use crate::work::{AREA, admitted};
 
 // The bounds of each claimant that takes part after `rounds` rounds, written into the two tables.
 // It works in the first 7,168 numbers of the lent area, whatever they hold, and leaves them 0.
-// The two tables are lent as a store keeps them, one beside the other.
+// Claims and spans are lent side by side, and so are the two tables, as callers have them.
 pub fn decode(
     claims: &Claims,
     spans: &Spans,

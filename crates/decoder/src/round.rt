@@ -32,6 +32,7 @@ impl Round<'_> {
     }
 
     // The lesser of two bounds from above, or the greater of two from below.
+    // It goes by a flag, as the definitions of the rounds do.
     fn tighter(&self, x: u64, y: u64) -> u64
         ensures { result ≡ tighter (odd (suc self.now.past)) x y }
     {
@@ -83,13 +84,13 @@ impl Round<'_> {
     fn tightest_but(&self, replies: &[u64], skip: usize) -> u64
         ensures { result ≡ tightest (odd (suc self.now.past)) (but skip replies.now) }
     {
-        let mut best = None;
-        for (place, reply) in replies.iter().enumerate() {
-            if place != skip {
-                best = Some(self.tighter(best.unwrap_or(*reply), *reply));
-            }
-        }
-        best.unwrap_or(0)
+        replies
+            .iter()
+            .enumerate()
+            .filter(|(place, _)| *place != skip)
+            .map(|(_, reply)| *reply)
+            .reduce(|x, y| self.tighter(x, y))
+            .unwrap_or(0)
     }
 
     // Each claimant that takes part answers the replies of its slots: each slot with what the others replied.
@@ -103,6 +104,7 @@ impl Round<'_> {
             if !row.is_empty() {
                 let replies = self.replies(row, i);
                 let replies = replies.as_slice();
+                // by index: of a loop over `iter_mut()` behind an adapter no proof knows what it wrote
                 fresh[i] = [
                     self.tightest_but(replies, 0),
                     self.tightest_but(replies, 1),

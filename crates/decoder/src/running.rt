@@ -19,6 +19,7 @@ fn start(claims: &Claims, messages: &mut Messages, lows: &mut [u64; ENTRIES])
 {
     for (i, claim) in claims.entries.as_slice().iter().enumerate() {
         if !claim.slots().is_empty() {
+            // by index: of a loop over `iter_mut()` behind an adapter no proof knows what it wrote
             messages[i] = [claim.floor; PLACES];
             lows[i] = claim.floor;
         }
@@ -26,7 +27,7 @@ fn start(claims: &Claims, messages: &mut Messages, lows: &mut [u64; ENTRIES])
 }
 
 // All the rounds, in a work area, which is left clear. The messages of even rounds have one part of it, and those of
-// odd rounds another.
+// odd rounds another. Claims and spans are lent side by side, as `decode` is lent them.
 pub(crate) fn run(
     claims: &Claims,
     spans: &Spans,

@@ -30,9 +30,18 @@ fn closed(totals: &[u64]) -> Result<Spans, Fail> {
 
 // A table has these answers, and behind them what it had.
 fn table_is(rt: &impl Abort, table: &[u64], answers: &[u64]) {
-    for (i, number) in table.iter().enumerate() {
-        assert!(rt; *number == answers.get(i).copied().unwrap_or(TABLE));
-    }
+    assert!(rt;
+        table
+            .iter()
+            .zip(answers)
+            .all(|(number, answer)| number == answer)
+    );
+    assert!(rt;
+        table
+            .iter()
+            .skip(answers.len())
+            .all(|number| *number == TABLE)
+    );
 }
 
 fn area_is_clear(rt: &impl Abort, work: &[u64]) {

@@ -1,30 +1,23 @@
-use Rattle.std.proofs.Common.{ℕ, suc, get_or, Some, Option, unwrap_or, sym, ap, ◌∙◌}
-use Rattle.std.proofs.lemmas.List.{take_all}
+use Rattle.std.proofs.Common.{suc, ℕ, ap, ◌∙◌, unwrap_or, rules, tests, arith}
+use Rattle.std.proofs.lemmas.Iterator.{YieldsList-from_slice, YieldsList-from_map}
+use Rattle.std.proofs.lemmas.Iterator.Consumers.{YieldsList-from_enumerate, YieldsList-from_filter, YieldsList-at}
+use Rattle.std.specs.List.{reduce}
 use Rattle.rounds.specs.Rounds.{odd, tighter}
 use Rattle.decoder.specs.Area.{but}
-use Rattle.decoder.proofs.Gathering.{known, known_all, gather_skip, gather_more}
+use Rattle.decoder.proofs.Gathering.{unless, others_left, reduced, reduce_tightest}
 use Rattle.decoder.proofs.round.Round.tightest_but.Goals as goal
-use Rattle.decoder.proofs.round.Round.tightest_but.Goals.{then-place-skip, else-place-skip}
-
-pub loop-place-preserved : goal.loop-place-preserved
-loop-place-preserved c =
-    let up = odd (suc c.args.self.now.past) in
-    let replies = c.args.replies.now in
-    let p = c.loop-place.place in
-    let x = get_or replies p 0 in
-    let lt = c.loop-place-test.true in
-    elim c.if-place-skip.branch [
-      | then-place-skip w ↦
-          w.best-is ∙ ap Some (w.tighter.ensures ∙ ap (λ b. tighter up b x) w.unwrap_or.ensures)
-          ∙ ap (λ (b : Option ℕ). Some (tighter up (unwrap_or b x) x)) c.loop-place.invariant
-          ∙ sym (gather_more up replies c.args.skip p lt w.if-place-skip.true)
-      | else-place-skip w ↦ w.best-is ∙ c.loop-place.invariant ∙ sym (gather_skip up replies c.args.skip p lt w.if-place-skip.false)
-    ]
 
 pub returns : goal.returns
 returns c =
     let up = odd (suc c.args.self.now.past) in
     let skip = c.args.skip in
-    let all = take_all c.loop-place.place c.args.replies.now c.loop-place-test.false in
-    c.unwrap_or-2.ensures ∙ ap (λ (b : Option ℕ). unwrap_or b 0) (c.loop-place.invariant ∙ ap (λ l. known up (but skip l)) all)
-    ∙ known_all up (but skip c.args.replies.now)
+    let xs = c.args.replies.now in
+    let is = reduced _ (tighter up) _ (λ a x b q k. search rules) c.map.result c.reduce.result _ c.reduce.ensures.ran
+    (YieldsList-from_map _ (λ (p : ℕ × ℕ). p.1)
+    (YieldsList-at c.map.ensures.source
+    (YieldsList-from_filter _ (unless skip)
+    (YieldsList-at c.filter.ensures.source (YieldsList-from_enumerate (YieldsList-from_slice xs (search rules)) (search rules)))
+    c.filter.ensures.closure (λ x r q k. search (rules, tests))))
+    c.map.ensures.closure (λ x r q k. search rules)) in
+    c.unwrap_or.ensures ∙ ap (λ o. unwrap_or o 0) is
+    ∙ ap (λ l. unwrap_or (reduce (tighter up) l) 0) (others_left skip skip 0 xs (omega arith)) ∙ reduce_tightest up (but skip xs)
