@@ -2,12 +2,15 @@
 use crate::watching::{WORK, settle, spans_are};
 use braid::braid::Braid;
 use braid::refusal::Refusal as BraidRefusal;
+use ledger::calls::Denial;
+use std::fmt::Display;
 use std::process::Abort;
 use std::test::Fail;
 use store::flat::Flat;
 use store::refusal::Refusal;
 use store::store::{CEILING, Store};
 use wiring::depth::Depth;
+use wiring::refusal::Refusal as RowRefusal;
 use wiring::row::Row;
 
 fn no_settling<S: Store>(
@@ -105,4 +108,39 @@ fn numbers(rt: HostRuntime) {
     assert_eq!(rt; Refusal::Ceiling.number(), 2);
     assert_eq!(rt; Refusal::Rounds.number(), 3);
     assert_eq!(rt; Refusal::Work.number(), 4);
+}
+
+fn reads(rt: &(impl Abort + AllocGlobal), why: &impl Display, expected: &str) -> Result<(), Fail> {
+    let text = why.to_string(rt.alloc())?;
+    assert_eq!(rt; text.as_str(), expected);
+    Ok(())
+}
+
+// A refusal that carries another one reads as that one does.
+#[test]
+fn words(rt: HostRuntime) -> Result<(), Fail> {
+    let no_slot = "a slot that is not there";
+    let weighted = "a new slot where there is weight already";
+    reads(&rt, &Refusal::NoSlot, no_slot)?;
+    reads(&rt, &Refusal::Ceiling, "a weight above the ceiling of 2^40")?;
+    reads(&rt, &Refusal::Rounds, "more than 2,048 rounds")?;
+    reads(
+        &rt,
+        &Refusal::Work,
+        "a work area of fewer than 7,168 numbers",
+    )?;
+    reads(&rt, &BraidRefusal::Weighted, weighted)?;
+    reads(
+        &rt,
+        &BraidRefusal::Full,
+        "a new slot where there are 1,024 already",
+    )?;
+    reads(&rt, &BraidRefusal::Store(Refusal::NoSlot), no_slot)?;
+    reads(
+        &rt,
+        &Denial::Row(RowRefusal::Bits),
+        "a depth that is not 2 to 16 bits",
+    )?;
+    reads(&rt, &Denial::Braid(BraidRefusal::Weighted), weighted)?;
+    reads(&rt, &Denial::Store(Refusal::NoSlot), no_slot)
 }
