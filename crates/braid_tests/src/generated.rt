@@ -10,6 +10,7 @@ use store::store::Store;
 use wiring::depth::Depth;
 use wiring::row::Row;
 
+// Numbers from a seed, as in the tests of traces: two crates of tests share no code.
 #[derive(Drop)]
 struct Dice {
     seed: u64,

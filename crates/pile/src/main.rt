@@ -63,7 +63,8 @@ fn one_braid(rt: &HostRuntime, depth: Depth, work: &mut [u64]) -> anyhow::Result
     Ok(())
 }
 
-// A braid with so many slots, each on three neighbours below, as the tests make too: a program and tests share no crate.
+// A braid with so many slots, each on three neighbours below.
+// As the tests' own: a program and tests share no crate.
 fn stacked<S: Store + Drop>(below: S, depth: Depth, slots: u16) -> anyhow::Result<Braid<S>> {
     let mut braid = Braid::new(below, depth);
     // the number is what the row is made of

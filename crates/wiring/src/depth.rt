@@ -28,10 +28,9 @@ impl Depth {
     pub fn new(bits: u8) -> Result<Depth, Refusal>
         ensures { told result ≡ depth_from bits }
     {
-        if 2 <= bits && bits <= 16 {
-            Ok(Depth { bits })
-        } else {
-            Err(Refusal::Bits)
+        match bits {
+            2..=16 => Ok(Depth { bits }),
+            _ => Err(Refusal::Bits),
         }
     }
 
