@@ -43,11 +43,11 @@ impl Claim {
     pub(crate) fn sent(&self, messages: &[u64; PLACES], slot: u16) -> u64
         ensures { result ≡ to slot (slots_in self.now.row) messages.now }
     {
-        self.slots()
-            .iter()
-            .zip(messages)
-            .find(|(own, _)| **own == slot)
-            .map_or(0, |(_, message)| *message)
+        // by place, as with a `zip` and `find` a decoding takes half as long again
+        match self.slots().iter().position(|own| *own == slot) {
+            Some(place) => messages[place],
+            None => 0,
+        }
     }
 }
 
