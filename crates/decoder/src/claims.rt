@@ -43,7 +43,7 @@ impl Claim {
     pub(crate) fn sent(&self, messages: &[u64; PLACES], slot: u16) -> u64
         ensures { result ≡ to slot (slots_in self.now.row) messages.now }
     {
-        // by place, as with a `zip` and `find` a decoding takes half as long again
+        // by place, as with a `zip` and `find` a decoding takes twice as long
         match self.slots().iter().position(|own| *own == slot) {
             Some(place) => messages[place],
             None => 0,
