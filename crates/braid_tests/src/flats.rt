@@ -1,5 +1,6 @@
 // Flat stores over tables that are longer than 1,024 numbers, and shorter.
 use crate::watching::{settle, spans_are};
+use rounds::span::Span;
 use std::process::Abort;
 use std::test::Fail;
 use store::flat::Flat;
@@ -28,8 +29,7 @@ fn add(rt: &impl Abort, table: &mut [u64], rounds: u16) -> Result<(), Fail> {
     assert_eq!(rt; flat.add(1024, 5), Err(Refusal::NoSlot));
     assert_eq!(rt; flat.add(1029, 5), Err(Refusal::NoSlot));
     settle(rt, &mut flat, rounds)?;
-    let span = flat.span(1023)?;
-    assert_eq!(rt; (span.low, span.high), (5, 5));
+    assert_eq!(rt; flat.span(1023)?, Span::closed(5));
     assert_eq!(rt; flat.weight(), 5);
     Ok(())
 }

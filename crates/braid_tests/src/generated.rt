@@ -2,6 +2,7 @@
 use crate::second::{Known, Slot, Tier, closed};
 use crate::watching::settle;
 use braid::braid::Braid;
+use rounds::span::Span;
 use std::alloc::{AllocError, Global};
 use std::process::Abort;
 use std::test::Fail;
@@ -116,7 +117,8 @@ impl<S: Store + Drop> Told<S> {
         assert_eq!(rt; usize::from(self.braid.slots()), known.len());
         for (i, (known, slot)) in (0..self.braid.slots()).zip(known.iter().zip(&self.tier.slots)) {
             let span = self.braid.span(i)?;
-            assert_eq!(rt; (span.low, span.high), (known.low, known.high));
+            let Known { low, high } = *known;
+            assert_eq!(rt; span, Span { low, high });
             assert!(rt; span.low <= slot.total && slot.total <= span.high);
             if span.low < span.high {
                 seen.open = seen.open.wrapping_add(1);

@@ -110,6 +110,7 @@ fn numbers(rt: HostRuntime) {
     assert_eq!(rt; Refusal::Work.number(), 4);
 }
 
+// As in the tests of rows: two crates of tests share no code.
 fn reads(rt: &(impl Abort + AllocGlobal), why: &impl Display, expected: &str) -> Result<(), Fail> {
     let text = why.to_string(rt.alloc())?;
     assert_eq!(rt; text.as_str(), expected);

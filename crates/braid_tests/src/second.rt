@@ -144,6 +144,7 @@ impl Tier {
         let many = self.slots.len();
         let least: Vec<u64> = below.iter().map(|known| known.low).collect(heap)?;
         let most: Vec<u64> = below.iter().map(|known| known.high).collect(heap)?;
+        // a list for each kind of bound, since a round replaces one of them whole
         let mut sent = vec![in heap; [1; 3]; many]?;
         let mut lows: Vec<u64> = vec![in heap; 1; many]?;
         let mut highs: Vec<u64> = vec![in heap; u64::MAX; many]?;

@@ -1,4 +1,5 @@
 // What is looked at in every store, whatever it is made of.
+use rounds::span::Span;
 use std::process::Abort;
 use std::test::Fail;
 use store::store::Store;
@@ -9,9 +10,8 @@ pub const WORK: u64 = 9;
 // The store has these spans, low and high of each slot, at the rounds that it is settled at.
 pub fn spans_are<S: Store>(rt: &impl Abort, store: &S, spans: &[(u64, u64)]) -> Result<(), Fail> {
     assert_eq!(rt; usize::from(store.slots()), spans.len());
-    for (slot, expected) in (0..store.slots()).zip(spans) {
-        let span = store.span(slot)?;
-        assert_eq!(rt; (span.low, span.high), *expected);
+    for (slot, &(low, high)) in (0..store.slots()).zip(spans) {
+        assert_eq!(rt; store.span(slot)?, Span { low, high });
     }
     Ok(())
 }

@@ -49,6 +49,7 @@ fn area_is_clear(rt: &impl Abort, work: &[u64]) {
     assert!(rt; work.iter().skip(7168).all(|number| *number == WORK));
 }
 
+// Claims and spans stand side by side, as `decode` is lent them.
 // Decodes, and holds every number of the tables and of the area against what it should be.
 fn expect(
     rt: &impl Abort,

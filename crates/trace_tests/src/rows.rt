@@ -46,6 +46,7 @@ fn conversions(rt: HostRuntime) -> Result<(), Fail> {
     Ok(())
 }
 
+// As in the tests of braids: two crates of tests share no code.
 fn reads(rt: &(impl Abort + AllocGlobal), why: &impl Display, expected: &str) -> Result<(), Fail> {
     let text = why.to_string(rt.alloc())?;
     assert_eq!(rt; text.as_str(), expected);

@@ -32,12 +32,19 @@ enum Body {
     Remark,
 }
 
+// What is left of a body: so many bytes, of which the last four spell `sum` so far.
+#[derive(Clone, Copy)]
+struct Part {
+    body: Body,
+    left: u8,
+    sum: u64,
+}
+
 // What the next byte is to be.
 #[derive(Clone, Copy)]
 enum Due {
     Kind,
-    // one of so many that are left of a body; `sum` is what the last four spell so far
-    Part { body: Body, left: u8, sum: u64 },
+    Body(Part),
     // none, since the end was seen
     Nothing,
     // none that can mean anything
@@ -56,14 +63,14 @@ impl Watcher {
     fn see(&mut self, at: usize, byte: u8) {
         match self.due {
             Due::Kind => self.begin(at, byte),
-            Due::Part { body, left, sum } => self.go_on(at, byte, body, left, sum),
+            Due::Body(part) => self.go_on(at, byte, part),
             Due::Nothing => self.due = Due::Lost(Flaw::Behind),
             Due::Lost(_) => {}
         }
     }
 
     fn begin(&mut self, at: usize, byte: u8) {
-        let part = |body, left| Due::Part { body, left, sum: 0 };
+        let part = |body, left| Due::Body(Part { body, left, sum: 0 });
         self.place = at;
         // by the bytes themselves, since no name is shared with the first reader
         self.due = match byte {
@@ -75,7 +82,8 @@ impl Watcher {
         };
     }
 
-    fn go_on(&mut self, at: usize, byte: u8, body: Body, left: u8, sum: u64) {
+    fn go_on(&mut self, at: usize, byte: u8, part: Part) {
+        let Part { body, left, sum } = part;
         let left = left.saturating_sub(1);
         let sum = if left < 4 {
             sum.wrapping_mul(256).wrapping_add(u64::from(byte))
@@ -83,7 +91,7 @@ impl Watcher {
             sum
         };
         if left > 0 {
-            self.due = Due::Part { body, left, sum };
+            self.due = Due::Body(Part { body, left, sum });
         } else {
             self.close(body, sum);
             self.due = Due::Kind;
@@ -106,7 +114,7 @@ impl Watcher {
     fn sighted(&self) -> Sighted {
         let outcome = match self.due {
             Due::Kind => Err(Flaw::Missing),
-            Due::Part { .. } => Err(Flaw::Short),
+            Due::Body(_) => Err(Flaw::Short),
             Due::Nothing => Ok(self.place),
             Due::Lost(flaw) => Err(flaw),
         };
