@@ -1,8 +1,16 @@
 -- The modulus of a depth, and what n units more do to a quotient and a remainder by it.
-use Rattle.std.proofs.Common.{◌≡◌, ℕ, ◌+◌, ◌*◌, ◌/◌, ◌%◌, ◌^◌, ◌<◌, ◌≤◌, true, leb, sym, ap, ◌∙◌, inl, inr, mod-eq_of_lt, mul-le-mul_left, arith, pow_mono}
+use Rattle.std.proofs.Common.{◌≡◌, ℕ, ◌+◌, ◌*◌, ◌/◌, ◌%◌, ◌^◌, ◌<◌, ◌≤◌, Bool, true, false, cond, ◌&&◌, leb, Ok, Err, Result, sym, ap, ◌∙◌, inl, inr, mod-eq_of_lt, mul-le-mul_left, arith, pow_mono}
 use native.Mathlib.Nat.{mul-add-div, div-add-mod, mod-le, mul-div-le, mod-add-mod}
 use Rattle.std.proofs.lemmas.Nat.{le-div}
 use Rattle.std.proofs.lemmas.Bool.{cases_lt, le-leb, lt-leb}
+use Rattle.wiring.specs.Wiring.{depth_from}
+
+pub made_depth : (b d : ℕ) → ◌≡◌ {A = Result ℕ ℕ} (Ok b) (depth_from d) → b ≡ d
+made_depth b d is = at (leb 2 d && leb d 16) is
+  where
+    at : (t : Bool) → ◌≡◌ {A = Result ℕ ℕ} (Ok b) (cond t (Ok d) (Err 10)) → b ≡ d
+    at true e = cc
+    at false e = let z : ◌≡◌ {A = ℕ} 0 1 = cc in absurd (omega arith)
 
 pub modulus_least : (b : ℕ) → 2 ≤ b → 4 ≤ 2 ^ b
 modulus_least b h = pow_mono {i = 2} {j = b} h

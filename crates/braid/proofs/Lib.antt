@@ -1,4 +1,5 @@
 pub mod Depths
+pub mod Tabling
 pub mod Rows
 pub mod Making
 pub mod Adding

@@ -1,7 +1,7 @@
 -- Settling a braid: the store below is settled, the decoder has run, and what it left in the tables is
 -- what the rounds give over the spans below.
-use Rattle.std.proofs.Common.{◌≡◌, ℕ, ◌<◌, ◌≤◌, true, List, length, get_or, Ok, Result, sym, refl, ap, ◌∙◌, subst, arith}
-use Rattle.std.proofs.lemmas.Bool.{le-ltb}
+use Rattle.std.proofs.Common.{◌≡◌, ℕ, ◌<◌, ◌≤◌, true, List, length, get_or, Ok, Result, sym, refl, ap, ◌∙◌, subst, inl, inr, arith}
+use Rattle.std.proofs.lemmas.Bool.{le-ltb, cases_lt}
 use Rattle.decoder.specs.Decoding.{Decoded, answer}
 use Rattle.rounds.specs.declared.span.Span.{Span}
 use Rattle.rounds.specs.Rounds.{Claimant, Uses, TakesPart, Low, High}
@@ -22,6 +22,15 @@ not_many m s b R k work left said h = no_refusal 3 k (sym (said.many h).0)
 
 pub not_short : {S : Type 0} (m : Meaning S) (s b : S) (R k : ℕ) (work left : List ℕ) → Settles m s b R work left (Ok k) → R ≤ 2048 → length work < 7168 → ⊥
 not_short m s b R k work left said h l = no_refusal 4 k (sym (said.short h l).0)
+
+pub settled_since : {S : Type 0} (m : Meaning S) (s b : S) (R k : ℕ) (work left : List ℕ) → Settles m s b R work left (Ok k) → Settled m s b R work left (Ok k)
+settled_since m s b R k work left said = elim (cases_lt 2048 R) [
+  | inl many ↦ absurd (not_many m s b R k work left said many)
+  | inr few ↦ elim (cases_lt (length work) 7168) [
+    | inl short ↦ absurd (not_short m s b R k work left said few short)
+    | inr long ↦ said.settled few long
+  ]
+]
 
 module _ {S : Type 0} (m : Meaning S) (laws : Laws m) (s : Braid S) (live : Live (braid_meaning m) s) where
   pub live_below : Live m s.below

@@ -16,7 +16,7 @@ modulus l = 2 ^ l.depth
 
 -- the rows in the order of the slots, of which there is one each
 abbrev pub rows : Layer → List (List ℕ)
-rows l = l.rows.items
+rows l = l.rows
 
 abbrev pub row : Layer → ℕ → List ℕ
 row l i = slice_index_or (rows l) i []

@@ -25,7 +25,7 @@ blank depth = record {
   bits = zeros;
   lows = zeros;
   highs = zeros;
-  rows = record { items = [] };
+  rows = [];
   weight = 0;
   rounds = 0;
   depth = depth;
@@ -38,7 +38,7 @@ wired l row = record {
   bits = slice_set l.bits (count l) 0;
   lows = l.lows;
   highs = l.highs;
-  rows = record { items = rows l ++ row ∷ [] };
+  rows = rows l ++ row ∷ [];
   weight = l.weight;
   rounds = l.rounds;
   depth = l.depth;

@@ -1,3 +1,4 @@
+pub mod Tables
 pub mod BraidMeaning
 pub mod BraidLaws
 pub mod Layers

@@ -7,7 +7,7 @@ ghost use Rattle.braid.specs.Layers.{Room, SameWiring, blank, carry, added, wire
 ghost use Rattle.braid.specs.BraidMeaning.{modulus, row, count};
 
 use crate::place::{Place, SLOTS};
-use arrayvec::ArrayVec;
+use crate::table::Rows;
 use rounds::span::Span;
 use store::refusal::Refusal;
 use wiring::depth::Depth;
@@ -15,13 +15,13 @@ use wiring::row::Row;
 
 // Tables of a braid's own, all zero at first (a bit too is 0 or 1), beside its rows: the decoder is lent two of them whole,
 // and a settling must not want memory. Nobody compares or prints a layer.
-#[derive(Drop)]
+#[derive(Clone, Copy)]
 pub struct Layer {
     pub(crate) parts: [u16; SLOTS],
     pub(crate) bits: [u8; SLOTS],
     pub(crate) lows: [u64; SLOTS],
     pub(crate) highs: [u64; SLOTS],
-    pub(crate) rows: ArrayVec<Row, SLOTS>,
+    pub(crate) rows: Rows,
     pub(crate) weight: u64,
     pub(crate) rounds: u16,
     pub(crate) depth: Depth,
@@ -41,7 +41,7 @@ impl Layer {
             bits: [0; SLOTS],
             lows: [0; SLOTS],
             highs: [0; SLOTS],
-            rows: ArrayVec::new(),
+            rows: Rows::new(),
             weight: 0,
             rounds: 0,
             depth,
@@ -53,7 +53,7 @@ impl Layer {
         ensures value { result ≡ count self.now }
         ensures few { result ≤ 1024 }
     {
-        self.rows.len() as u16
+        self.rows.len()
     }
 
     // Where a slot stands in the tables. Each store tests slots against tables of its own.

@@ -7,3 +7,4 @@ mod inputs;
 pub mod layer;
 mod place;
 pub mod refusal;
+mod table;

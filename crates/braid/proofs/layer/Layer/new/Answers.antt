@@ -10,7 +10,7 @@ layer_of depth rows = record {
   bits = replicate 1024 0;
   lows = replicate 1024 0;
   highs = replicate 1024 0;
-  rows = record { items = rows };
+  rows = rows;
   weight = 0;
   rounds = 0;
   depth = depth;
