@@ -101,14 +101,14 @@ module _ (t : List ℕ) (p : ℕ) (some : 1 ≤ length (from t p)) (byte : ℕ) 
   gives_short of is less = ending_at t p (short byte (tail (from t p))) (subst Known (sym is) (known_code of), less) bytes
 
   -- a record whose body is cut off the rest takes the reader past it
-  pub gives_entry : (e : Entry) (n : ℕ) (body : List ℕ) → ProperEntry e → lay_entry e ≡ byte ∷ body → body ≡ take n (tail (from t p))
-      → Next t p (entry p e) (p + (1 + length body))
-  gives_entry e n body proper is cut =
+  pub gives_entry : (e : Entry) (n m : ℕ) (body : List ℕ) → ProperEntry e → lay_entry e ≡ byte ∷ body → body ≡ take n (tail (from t p))
+      → length body ≡ m → Next t p (entry p e) (p + (1 + m))
+  gives_entry e n m body proper is cut many =
       let rest = tail (from t p) in
       let whole : byte ∷ rest ≡ lay_entry e ++ drop n rest =
       ap (λ l. byte ∷ l) (sym (take-append-drop n rest) ∙ ap (λ l. l ++ drop n rest) (sym cut)) ∙ ap (λ l. l ++ drop n rest) (sym is) in
-      let long : length (lay_entry e) ≡ 1 + length body = omega (arith, ap length is) in
-      subst (λ m. Next t p (entry p e) (p + m)) long (gives t p (inl e) (proper, (drop n rest, bytes ∙ whole)))
+      let long : length (lay_entry e) ≡ 1 + m = omega (arith, ap length is, many) in
+      subst (λ k. Next t p (entry p e) (p + k)) long (gives t p (inl e) (proper, (drop n rest, bytes ∙ whole)))
 
 -- the end record, with nothing behind it or with more
 module _ (t : List ℕ) (p : ℕ) (some : 1 ≤ length (from t p)) (kind : 4 ≡ get_or (from t p) 0 0) where
