@@ -1,6 +1,6 @@
 -- One enrol and one record: what the book answers by the state it is in, and what it then holds. An epoch that stands for
 -- a book answers alike.
-use Rattle.std.proofs.Common.{◌≡◌, ℕ, zero, suc, ◌+◌, ◌*◌, ◌^◌, ◌<◌, ◌≤◌, true, false, cond, List, [], ◌∷◌, ◌++◌, map, length, get_or, is_some, Some, None, sym, refl, ap, ◌∙◌, arith}
+use Rattle.std.proofs.Common.{◌≡◌, ℕ, zero, suc, ◌+◌, ◌*◌, ◌^◌, ◌<◌, ◌≤◌, true, false, cond, List, [], ◌∷◌, ◌++◌, map, length, get_or, replicate, is_some, Some, None, sym, refl, ap, ◌∙◌, arith}
 use lib.ListN.{length-map}
 use Rattle.std.proofs.lemmas.List.{get_or_append_left, get_or_push, get_or-set_other, get_or-set_same, map_push}
 use Rattle.std.proofs.lemmas.Bool.{cond-true, cond-false, eq-eqb, ne_eqb, lt-ltb, le-ltb, le-leb, lt-leb}
@@ -8,11 +8,11 @@ use Rattle.store.specs.Meaning.{Within}
 use Rattle.store.specs.Sums.{slot_sums}
 use Rattle.store.specs.Totals as totals
 use Rattle.store.proofs.Lists.{total_more}
-use Rattle.store.proofs.Sums.{sums_more, sums_push, total_sums, sum_ext, total_sum}
+use Rattle.store.proofs.Sums.{sums_more, sums_push, sums_none, total_sums, sum_ext, total_sum}
 use Rattle.rounds.specs.Rounds.{sum}
 use Rattle.wiring.specs.Rising.{is_row}
 use Rattle.book.specs.Book.{Said, enrolled, recorded, denied, Flow, Book, identifier_of, row_of, units_of, weight_of}
-use Rattle.book.specs.Book.{identifiers, rows, units, total, weight, units_at, sums, Wired, fits, place}
+use Rattle.book.specs.Book.{identifiers, rows, units, total, weight, units_at, sums, Wired, opened, fits, place}
 use Rattle.book.specs.Book.{enrol_says, record_there, record_says, accepted, with_flows, grown, grown_there, after_enrol, after_record}
 use Rattle.book.proofs.Flows.{new_flow, grown_rows, grown_units}
 use Rattle.book.proofs.Rows.{row_distinct}
@@ -143,3 +143,7 @@ sums_weight B wired within =
     (λ i h. row_distinct (get_or (rows B) i []) (wired i (omega arith))) (λ i h. within i (omega arith))
     ∙ sum_ext (length (rows B)) _ (λ i. get_or heavy i 0) (λ i h. weight_at B.flows i)
     ∙ ap (λ n. sum n (λ i. get_or heavy i 0)) (many ∙ sym (length-map B.flows weight_of)) ∙ sym (total_sum heavy)
+
+-- before any call nothing has reached a slot
+pub opened_sums : (N W : ℕ) → sums (opened N W) ≡ replicate N 0
+opened_sums N W = sums_none N [] (units_at (opened N W)) (λ i h. refl)

@@ -23,6 +23,10 @@ load_split cs m s i h =
     sum_split (length cs) (share cs m s) i (uses_inside cs i s h)
     ∙ ap (λ z. z + rest cs m s i) (cond-true (has s (row_of cs i)) (m i) 0 h)
 
+-- A sum taken over all claimants gives that over the others.
+pub rest_less : (cs : List Claimant) (m : ℕ → ℕ) (s i : ℕ) → Uses cs i s → rest cs m s i ≡ load cs m s - m i
+rest_less cs m s i h = omega (arith, load_split cs m s i h)
+
 -- An amount u, with r' beside it inside the edge E, keeps on its side of the reply where the messages r keep on theirs.
 pub reply_bound : (b : Bool) (F E r r' u : ℕ) → F ≤ u → Le (not b) (u + r') E → Le b r' r → Le (not b) u (max F (E - r))
 reply_bound true F E r r' u p q h = omega arith

@@ -1,5 +1,5 @@
 -- Lists made entry by entry, as loops make them, and what the decoder takes.
-use Rattle.std.proofs.Common.{◌≡◌, ℕ, zero, suc, ◌+◌, ◌<◌, Bool, true, ltb, List, [], ◌∷◌, ◌++◌, Ok, Result, refl, ap, ◌∙◌, add-one, arith}
+use Rattle.std.proofs.Common.{◌≡◌, ℕ, zero, suc, ◌+◌, ◌<◌, Bool, true, false, ltb, List, [], ◌∷◌, ◌++◌, Ok, Err, Result, refl, ap, ◌∙◌, add-one, arith}
 use Rattle.std.proofs.lemmas.Bool.{and_from, cond_both, lt-ltb, lt-leb}
 use Rattle.decoder.specs.Inputs.{told}
 use Rattle.decoder.specs.Limits.{reach}
@@ -29,6 +29,13 @@ made_row slots made =
     cond_both (is_row slots) _ _ (λ r. ◌≡◌ {A = Result (List ℕ) ℕ} (Ok made) r → (is_row slots ≡ true) × (made ≡ slots))
     (λ one e. (one, (cc)))
     (λ none e. let z : ◌≡◌ {A = ℕ} 0 1 = cc in absurd (omega arith))
+
+-- slots of which none was made are none, and the refusal is 5
+pub no_row : (slots : List ℕ) (why : ℕ) → ◌≡◌ {A = Result (List ℕ) ℕ} (Err why) (row_from slots) → (is_row slots ≡ false) × (why ≡ 5)
+no_row slots why =
+    cond_both (is_row slots) _ _ (λ r. ◌≡◌ {A = Result (List ℕ) ℕ} (Err why) r → (is_row slots ≡ false) × (why ≡ 5))
+    (λ one e. let z : ◌≡◌ {A = ℕ} 0 1 = cc in absurd (omega arith))
+    (λ none e. (none, (cc)))
 
 pub same_ok : {X E : Type 0} (x y : X) → ◌≡◌ {A = Result X E} (Ok x) (Ok y) → x ≡ y
 same_ok x y is = cc

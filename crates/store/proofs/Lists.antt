@@ -1,5 +1,5 @@
 -- Totals of lists, and what one entry more does to them.
-use Rattle.std.proofs.Common.{◌≡◌, ℕ, ◌+◌, ◌^◌, ◌<◌, ◌≤◌, min, List, [], ◌++◌, length, get_or, replicate, take, drop, sym, refl, ap, ◌∙◌, inl, inr, arith, length-append, length-drop, length-set, length-take, set}
+use Rattle.std.proofs.Common.{◌≡◌, ℕ, suc, ◌+◌, ◌^◌, ◌<◌, ◌≤◌, min, List, [], ◌∷◌, ◌++◌, length, get_or, replicate, take, drop, sym, refl, ap, ◌∙◌, inl, inr, arith, length-append, length-drop, length-set, length-take, set}
 use lib.Seq.{take-set-lt}
 use Rattle.std.proofs.lemmas.List.{get_or-take, drop-set-lt, append-nil, take_all, take_at, drop_at, drop_all}
 use Rattle.std.proofs.lemmas.Grind.{common_steps}
@@ -15,8 +15,12 @@ pub length_more : (T : List ℕ) (slot n : ℕ) → length (more T slot n) ≡ l
 length_more T slot n = length-set T slot (get_or T slot 0 + n)
 
 -- a list of zeros adds up to 0
-pub total_none : (n : ℕ) → total (replicate n 0) ≡ 0
-total_none n = grind (arith, common_steps, is_sum_by total (λ x. x) refl (λ _ _. refl))
+pub total_none : (T : List ℕ) → ((k : ℕ) → k < length T → get_or T k 0 ≡ 0) → total T ≡ 0
+total_none [] h = refl
+total_none (x ∷ T) h = omega (arith, h 0 (omega arith), total_none T (λ k l. h (suc k) (omega arith)))
+
+pub total_replicate : (n : ℕ) → total (replicate n 0) ≡ 0
+total_replicate n = grind (arith, common_steps, is_sum_by total (λ x. x) refl (λ _ _. refl))
 
 -- a table whose first n numbers were replaced, where n is 1,024 or the length of the table
 module _ (xs ys : List ℕ) (n : ℕ) (n-is : n ≡ min (length xs) 1024) (long : length ys ≡ n) where

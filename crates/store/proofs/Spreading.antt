@@ -25,10 +25,23 @@ spread_push T [] slot n = refl
 spread_push T (s ∷ row) slot n = spread_push (more T s n) row slot n
 
 -- one more slot's share
-times_more : (i n : ℕ) → (i + 1) * n ≡ i * n + n
+pub times_more : (i n : ℕ) → (i + 1) * n ≡ i * n + n
 times_more i n = add-mul i 1 n ∙ ap (λ k. i * n + k) (one-mul n)
 
 module _ {S : Type 0} (m : Meaning S) where
+  pub none_yet : (s : S) (n w : ℕ) → m.sound s → w ≡ m.weight s → Spread m s s [] n (Ok w)
+  none_yet s n w sound is = record {
+    answers = ap Ok (is ∙ none);
+    slots = refl;
+    weight = none;
+    rounds = λ h. absurd (omega arith);
+    sound = sound;
+    admits = λ T a. a;
+  }
+    where
+      none : m.weight s ≡ m.weight s + 0 * n
+      none = omega arith
+
   pub one_more : (before mid after : S) (row : List ℕ) (slot n : ℕ) (answer : Result ℕ ℕ)
       → Spread m before mid row n (Ok (m.weight mid)) → Added m mid after slot n answer
       → Spread m before after (row ++ slot ∷ []) n (Ok (m.weight after))
@@ -44,16 +57,25 @@ module _ {S : Type 0} (m : Meaning S) where
         admits = λ T a. subst (m.admits after) (sym (spread_push T row slot n)) (more-so.admits (spread T row n) (so.admits T a));
       }
 
+  -- the next addition has room
+  pub room : (before mid : S) (row : List ℕ) (i n : ℕ) (said : Result ℕ ℕ) → i < length row
+      → Spread m before mid (take i row) n said → m.weight before + length row * n ≤ 2 ^ 40 → m.weight mid + n ≤ 2 ^ 40
+  room before mid row i n said h so fits =
+      let front : length (take i row) ≡ i = omega (arith, length-take i row) in
+      omega (arith, so.weight, ap (λ k. k * n) front, times_more i n, mul-le-mul_right {m = i + 1} {n = length row} n (omega arith))
+
+  pub still_live : (before mid : S) (row : List ℕ) (n : ℕ) (said : Result ℕ ℕ) → Live m before → Spread m before mid row n said → Live m mid
+  still_live before mid row n said live so =
+      record { sound = so.sound; totals = spread live.totals row n; admitted = so.admits live.totals live.admitted }
+
   -- the next addition has a slot and room, so it is accepted
   pub next_added : (before mid after : S) (row : List ℕ) (i n : ℕ) (answer : Result ℕ ℕ)
       → Live m before → Within (m.slots before) row → m.weight before + length row * n ≤ 2 ^ 40 → i < length row
       → Spread m before mid (take i row) n (Ok (m.weight mid)) → (Live m mid → Adds m mid after (get_or row i 0) n answer)
       → Added m mid after (get_or row i 0) n answer
   next_added before mid after row i n answer live all fits h so adds =
-      let front : length (take i row) ≡ i = omega (arith, length-take i row) in
-      (adds (record { sound = so.sound; totals = spread live.totals (take i row) n; admitted = so.admits live.totals live.admitted })).added
-      (omega (arith, so.slots, within_at _ row all i h))
-      (omega (arith, so.weight, ap (λ k. k * n) front, times_more i n, mul-le-mul_right {m = i + 1} {n = length row} n (omega arith)))
+      (adds (still_live before mid (take i row) n _ live so)).added
+      (omega (arith, so.slots, within_at _ row all i h)) (room before mid row i n _ h so fits)
 
 -- a call that is owed an answer was not refused
 pub no_refusal : {X E : Type 0} (why : E) (x : X) → ◌≡◌ {A = Result X E} (Err why) (Ok x) → ⊥

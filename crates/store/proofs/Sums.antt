@@ -1,7 +1,7 @@
 -- What reaches the slots of a store from above: how the sums follow the amounts and the rows, and what they come to.
 -- Rows may have any length, as long as none has a slot twice.
-use Rattle.std.proofs.Common.{◌≡◌, ℕ, zero, suc, ◌+◌, ◌*◌, ◌<◌, Bool, true, false, cond, eqb, List, [], ◌∷◌, ◌++◌, length, get_or, sym, refl, ap, ◌∙◌, subst, inl, inr, suc-mul, arith}
-use Rattle.std.proofs.lemmas.List.{ext_get_or, get_or-set_same, get_or-set_other, get_or_past, get_or_append_left, length_push}
+use Rattle.std.proofs.Common.{◌≡◌, ℕ, zero, suc, ◌+◌, ◌*◌, ◌<◌, Bool, true, false, cond, eqb, List, [], ◌∷◌, ◌++◌, length, get_or, replicate, sym, refl, ap, ◌∙◌, subst, inl, inr, suc-mul, arith}
+use Rattle.std.proofs.lemmas.List.{ext_get_or, get_or-replicate, get_or-set_same, get_or-set_other, get_or_past, get_or_append_left, length_push, length-replicate}
 use Rattle.std.proofs.lemmas.Bool.{cases_eq, cases_lt, cond-true, cond-false, eq-eqb, ne_eqb}
 use Rattle.rounds.specs.Rounds.{has, sum}
 use Rattle.rounds.specs.Laws.{Distinct}
@@ -96,6 +96,14 @@ length_sums N rows a = length_listed N (reaching rows a)
 pub get_or_sums : (N : ℕ) (rows : List (List ℕ)) (a : ℕ → ℕ) (j : ℕ) → j < N → get_or (slot_sums N rows a) j 0 ≡ reaching rows a j
 get_or_sums N rows a j h = get_or_listed N (reaching rows a) j 0 h
 
+pub reaching_ext : (rows : List (List ℕ)) (a b : ℕ → ℕ) → ((i : ℕ) → i < length rows → a i ≡ b i)
+    → (j : ℕ) → reaching rows a j ≡ reaching rows b j
+reaching_ext rows a b e j = sum_ext (length rows) _ _ (λ i h. ap (λ n. cond (has j (get_or rows i [])) n 0) (e i h))
+
+pub sums_ext : (N : ℕ) (rows : List (List ℕ)) (a b : ℕ → ℕ) → ((i : ℕ) → i < length rows → a i ≡ b i)
+    → slot_sums N rows a ≡ slot_sums N rows b
+sums_ext N rows a b e = listed_ext N _ _ (λ j h. reaching_ext rows a b e j)
+
 cond_more : (t : Bool) (x y n : ℕ) → y ≡ x + n → cond t y 0 ≡ cond t x 0 + cond t n 0
 cond_more true x y n e = e
 cond_more false x y n e = refl
@@ -141,6 +149,10 @@ reaching_none rows a e j = sum_none (length rows) _ (λ i h. cond_zero (has j (g
 
 -- where nothing is brought, nothing reaches a slot
 module _ (N : ℕ) (rows : List (List ℕ)) (a : ℕ → ℕ) (none : (i : ℕ) → i < length rows → a i ≡ 0) where
+  pub sums_none : slot_sums N rows a ≡ replicate N 0
+  sums_none = listed_get_or N (reaching rows a) (replicate N 0) 0 (length-replicate N 0)
+      (λ j h. reaching_none rows a none j ∙ sym (get_or-replicate N j 0 0 h))
+
   pub get_or_sums_none : (j : ℕ) → get_or (slot_sums N rows a) j 0 ≡ 0
   get_or_sums_none j = elim (cases_lt j N) [
     | inl h ↦ get_or_sums N rows a j h ∙ reaching_none rows a none j

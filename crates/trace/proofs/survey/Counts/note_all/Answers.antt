@@ -38,8 +38,8 @@ on c R lays =
     let g = goes_on R so.0 e.0 e.1.0 lays.entries (sym e.1.1 ∙ f.0) in (
       so.0 + 1,
       f.1,
-      subst (λ es. Counted es c.note.new.self) (sym g.1) (c.note.ensures.counted (take so.0 R.entries) e.0 e.1.0 g.0 e.1.1 so.2),
-      omega (arith, so.1.next, f.1.next, g.2),
+      subst (λ es. Counted es c.note.new.self) (sym g.2) (c.note.ensures.counted (take so.0 R.entries) e.0 e.1.0 g.1 e.1.1 so.2),
+      omega (arith, so.1.next, f.1.next, g.3),
     )
 
 pub loop-place-smaller : goal.loop-place-smaller
