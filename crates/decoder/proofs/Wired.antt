@@ -1,6 +1,6 @@
 -- What the rounds take from the types of their inputs: rows of three slots that rise, and small floors and spans.
-use Rattle.std.proofs.Common.{◌≡◌, ℕ, zero, suc, ◌^◌, ◌<◌, ◌≤◌, Bool, true, false, eqb, ltb, List, [], ◌∷◌, map, length, get_or, Some, None, Option, sym, refl, ap, ◌∙◌, arith}
-use Rattle.std.proofs.lemmas.Bool.{and_parts, ltb-true, ne_eqb, or_from}
+use Rattle.std.proofs.Common.{◌≡◌, ℕ, zero, suc, ◌^◌, ◌<◌, ◌≤◌, Bool, true, false, eqb, ltb, List, [], ◌∷◌, map, length, get_or, is_some, Some, None, Option, sym, refl, ap, ◌∙◌, arith}
+use Rattle.std.proofs.lemmas.Bool.{and_parts, both_ways, eqb-true, ltb-true, ne_eqb, or_from}
 use Rattle.std.proofs.lemmas.List.{get_or-map, length-map}
 use Rattle.wiring.specs.Rising.{rising}
 use Rattle.rounds.specs.Rounds.{Claimant, nobody, row_of, floor_of, has, besides, edge, odd, message}
@@ -80,3 +80,12 @@ rising_distinct (a ∷ (b ∷ row)) r =
 pub row_distinct : (row : Option (List ℕ)) → rises row ≡ true → Distinct (slots_in row)
 row_distinct None r = tt
 row_distinct (Some row) r = rising_distinct row (and_parts (eqb (length row) 3) (rising row) r).1
+
+-- A claimant has slots just if it has a row.
+pub row_some : (row : Option (List ℕ)) → rises row ≡ true → is_some row ≡ true → 0 < length (slots_in row)
+row_some None r s = absurd (both_ways false refl s)
+row_some (Some row) r s = omega (arith, eqb-true (length row) 3 (and_parts (eqb (length row) 3) (rising row) r).0)
+
+pub row_none : (row : Option (List ℕ)) → is_some row ≡ false → length (slots_in row) ≤ 0
+row_none None n = omega arith
+row_none (Some row) n = absurd (both_ways true n refl)

@@ -98,8 +98,9 @@ impl Round<'_> {
             Tabled cs (estimate cs (span_at self.now.spans.now) (suc self.now.past)) bounds.old bounds.new }
     {
         for (i, claim) in self.claims.entries.as_slice().iter().enumerate() {
-            let row = claim.slots();
-            if !row.is_empty() {
+            // asked of the claimant, and not of its slots, so that the compiler knows how many these are
+            if claim.row.is_some() {
+                let row = claim.slots();
                 let replies = self.replies(row, i);
                 let replies = replies.as_slice();
                 // by index: of a loop over `iter_mut()` behind an adapter no proof knows what it wrote
